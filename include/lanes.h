@@ -31,7 +31,7 @@
 #include <stdint.h>
 
 /* The version that this header is of. lanes_version answers that of the library that is loaded. */
-#define LANES_VERSION "0.6.0"
+#define LANES_VERSION "0.6.1"
 
 #ifdef __cplusplus
 extern "C" {
@@ -374,6 +374,21 @@ uint8_t lanes_spread(lanes_table *table, size_t *ends, size_t ends_room, uint8_t
 uint8_t lanes_table_import(lanes_table *table, const uint8_t *csv, size_t csv_length, bool has_heading, uint32_t origin, uint32_t number,
                            const uint64_t *words, size_t words_count, lanes_place *place);
 
+/* Imports rows of columns: the mirror of lanes_columns. So what that gives of all columns of a table is what this takes.
+ *
+ * Column c of the table, from 0, has its numbers from values[c * rows] on. Its bits begin at valid[c * stride], where stride is
+ * 64 * ((rows + 511) / 512): bit i % 8 of byte i / 8 is 1 if cell i is a value, and 0 if it is null. A null's number, and the bits past
+ * the last row, don't matter. With a valid_length of 0 each cell is a value. Rows become batches, and these get names, as of lanes_import.
+ * `values` and `valid` are never null, also with a length of 0.
+ *
+ * Refused, in this order: LANES_NOT_OPEN when the handle is closed; LANES_FULL when there are more than 2^36 rows; LANES_WRONG_ARITY when
+ * values_count isn't rows times the table's columns, or valid_length is neither 0 nor stride times these; LANES_OUT_OF_TYPE with the first
+ * row that has a number outside its column's type, and the first such column of that row; LANES_BAD_NAME if one of origin and number is 0;
+ * LANES_NUMBERS_SPENT; LANES_CONFLICT; LANES_FULL. */
+uint8_t lanes_table_import_columns(lanes_table *table, size_t rows, const int64_t *values, size_t values_count, const uint8_t *valid,
+                                   size_t valid_length, uint32_t origin, uint32_t number, const uint64_t *words, size_t words_count,
+                                   lanes_place *place);
+
 /* Deletes the rows at which a condition is true, as lanes_delete.
  *
  * Refused, in this order: LANES_NOT_OPEN when the handle is closed; LANES_SYNTAX at the first byte that is no UTF-8; LANES_SYNTAX,
@@ -417,7 +432,7 @@ size_t lanes_refusal(uint8_t number, uint8_t *out, size_t room);
  * has more than 256 bytes. */
 size_t lanes_sentence(uint8_t number, const lanes_place *place, uint8_t *out, size_t room);
 
-/* Gives the library's version, as "0.6.0", without a byte 0 at its end, and answers how many bytes it has. It is written if it
+/* Gives the library's version, as "0.6.1", without a byte 0 at its end, and answers how many bytes it has. It is written if it
  * fits. */
 size_t lanes_version(uint8_t *out, size_t room);
 

@@ -348,6 +348,13 @@ class Heads(InFolder):
             self.folder.import_csv("1,1\n", heading=False)
         self.assertEqual((caught.exception.name, self.folder.parts()), ("Full", before))
 
+    def test_a_folder_of_many_long_names_is_read_by_its_heads(self) -> None:
+        columns = {f"C{number:02}_{'N' * 60}": "BIGINT" for number in range(32)}
+        folder = Folder.create(os.path.join(self.room, "wide"), "T" * 64, columns)
+        self.assertEqual(folder.import_csv(",".join(map(str, range(32))) + "\n", heading=False), 1)
+        folder.delete_rows("9.9", 3)
+        self.assertEqual((folder.name, folder.columns, len(folder), len(folder.parts())), ("T" * 64, columns, 1, 3))
+
     def test_a_load_without_rows_puts_no_part(self) -> None:
         folder = Folder.of(os.path.join(self.room, "full"), self.empty.import_csv("1,1\n", heading=False))
         for batch in None, "1.1":

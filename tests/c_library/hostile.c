@@ -113,6 +113,21 @@ static uint8_t changes_by_offer(const uint8_t *file, size_t file_length, const u
     return changes(lanes_table_apply, file, file_length, other, other_length, out, room, length, place);
 }
 
+/* The bytes are numbers of two columns; what is left of them is passed over. */
+static uint8_t imports_columns_into(lanes_table *table, const uint8_t *other, size_t other_length, lanes_place *place) {
+    size_t rows = other_length / 16;
+    int64_t *values = (int64_t *)room_of(rows * 16);
+    memcpy(values, other, rows * 16);
+    uint8_t refused = lanes_table_import_columns(table, rows, values, rows * 2, other, 0, 7, 4, (uint64_t[]){0}, 0, place);
+    free(values);
+    return refused;
+}
+
+static uint8_t changes_by_columns(const uint8_t *file, size_t file_length, const uint8_t *other, size_t other_length, uint8_t *out, size_t room,
+                                  size_t *length, lanes_place *place) {
+    return changes(imports_columns_into, file, file_length, other, other_length, out, room, length, place);
+}
+
 static uint8_t inspects(const uint8_t *file, size_t file_length, const uint8_t *other, size_t other_length, uint8_t *out, size_t room,
                         size_t *length, lanes_place *place) {
     lanes_table table = LANES_CLOSED;
@@ -123,8 +138,8 @@ static uint8_t inspects(const uint8_t *file, size_t file_length, const uint8_t *
     return refused;
 }
 
-static call_on_two *const CALLS[] = {checks, dumps, summarizes, creates, imports, lanes_query, lanes_delete, lanes_offer, lanes_apply, lanes_merge, answers_all, forgets, tells_schema, gives_columns, changes_by_import, changes_by_delete, changes_by_offer, inspects};
-static const char *const NAMES[] = {"check", "dump", "summary", "create", "import", "query", "delete", "offer", "apply", "merge", "queries", "forget", "schema", "columns", "table_import", "table_delete", "table_apply", "inspect"};
+static call_on_two *const CALLS[] = {checks, dumps, summarizes, creates, imports, lanes_query, lanes_delete, lanes_offer, lanes_apply, lanes_merge, answers_all, forgets, tells_schema, gives_columns, changes_by_import, changes_by_delete, changes_by_offer, inspects, changes_by_columns};
+static const char *const NAMES[] = {"check", "dump", "summary", "create", "import", "query", "delete", "offer", "apply", "merge", "queries", "forget", "schema", "columns", "table_import", "table_delete", "table_apply", "inspect", "table_import_columns"};
 enum { COUNT = sizeof CALLS / sizeof *CALLS };
 
 /* Calls with so much of a room of ROOM bytes, all of them FILLER. The inputs are copies in blocks of their own, so that valgrind sees a read
@@ -205,9 +220,10 @@ static inputs make_inputs(void) {
         made.others[3 + at] = copy_of(texts[at], strlen(texts[at]));
     }
     static const char queries[] = "SELECT COUNT(A) FROM T WHERE B > 3\nSELECT COUNT(*) FROM T";
-    bytes both = bytes_of(queries);
+    static const int64_t numbers[] = {1, 2, 3, 4};
+    bytes both = bytes_of(queries), cells = {(uint8_t *)(uintptr_t)numbers, sizeof numbers};
     for (size_t call = 7; call < COUNT; call++) {
-        bytes from = call == 7 ? summary : call == 10 ? both : call == 13 ? bytes_of("B A") : call == 14 ? bytes_of("B,A\n5,6\n") : call == 15 ? bytes_of("A > 1") : other;
+        bytes from = call == 7 ? summary : call == 10 ? both : call == 13 ? bytes_of("B A") : call == 14 ? bytes_of("B,A\n5,6\n") : call == 15 ? bytes_of("A > 1") : call == 18 ? cells : other;
         free(made.others[call].at);
         made.others[call] = copy_of(from.at, from.length);
     }

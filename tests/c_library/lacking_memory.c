@@ -31,6 +31,12 @@ static bytes offer;
 
 static uint8_t import(lanes_table *table, lanes_place *place) { return lanes_table_import(table, text_of("3,30\n4,\n"), 8, false, 0, 0, WORDS, 1, place); }
 
+static uint8_t import_columns(lanes_table *table, lanes_place *place) {
+    static const int64_t values[] = {3, 4, 30, 0};
+    static const uint8_t valid[128] = {[0] = 3, [64] = 1};
+    return lanes_table_import_columns(table, 2, values, 4, valid, 128, 0, 0, WORDS, 1, place);
+}
+
 static uint8_t delete(lanes_table *table, lanes_place *place) { return lanes_table_delete(table, text_of("HITS < 10 OR SITE = 2"), 21, place); }
 
 static uint8_t delete_rows(lanes_table *table, lanes_place *place) { return lanes_table_delete_rows(table, 1, 1, 0, 1, place); }
@@ -118,6 +124,7 @@ int main(void) {
     TAKE(offer, lanes_import(empty.at, empty.length, text_of("9,90\n"), 5, false, 2, 1, WORDS, 0, out, room, &length, &place));
     TAKE(dead, lanes_delete(start.at, start.length, text_of("SITE > 0"), 8, out, room, &length, &place));
     expect(refuse_each(start, import, "an import") > 5, "growths of an import");
+    expect(refuse_each(start, import_columns, "an import of columns") > 5, "growths of an import of columns");
     expect(refuse_each(start, delete, "a delete") > 3, "growths of a delete");
     expect(refuse_each(start, delete_rows, "a delete of rows") > 3, "growths of a delete of rows");
     expect(refuse_each(start, delete_held_rows, "a delete of held rows") > 3, "growths of a delete of held rows");

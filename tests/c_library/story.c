@@ -78,6 +78,15 @@ int main(void) {
     print_schema(&opened);
     print_column(&opened, "HITS", "");
     print_column(&opened, "site", "HITS >= 20");
+
+    static const int64_t numbers[] = {5, 6, 50, 0}; /* two rows: of each column its numbers, and the second HITS is null */
+    uint8_t bits[128] = {0};
+    uint64_t no_words = 0;
+    bits[0] = 3;
+    bits[64] = 1;
+    refused = lanes_table_import_columns(&opened, 2, numbers, 4, bits, sizeof bits, 3, 1, &no_words, 0, &at);
+    if (refused != LANES_OK) end_at("lanes_table_import_columns", refused, at);
+    print_asked(&opened, "SELECT COUNT(*),SUM(HITS) FROM COUNTS");
     lanes_close(&opened);
 
     free(empty.at);

@@ -220,6 +220,22 @@ def a_cursor_that_is_not_read_to_its_end_keeps_nothing(extension):
         assert (open_files(), mappings(room)) == (opened, mapped)
 
 
+def a_file_of_the_same_length_in_its_place_is_another_one(extension):
+    """What a statement has open is shared by a later one only if the file is still the same."""
+    with tempfile.TemporaryDirectory(prefix="lanes-sqlite-") as room:
+        path = os.path.join(room, "t.lanes")
+        first, second = (Table.create("T", {"A": "INTEGER"}).import_csv(f"{n}\n{n}\n", heading=False, batch="1.1") for n in (7, 8))
+        assert len(first.to_bytes()) == len(second.to_bytes())
+        first.save(path)
+        base = connected(extension)
+        base.execute(f"CREATE VIRTUAL TABLE temp.x USING lanes('{path}')")
+        running = base.execute("SELECT A FROM x")
+        assert running.fetchone() == (7,)
+        second.save(path)
+        assert base.execute("SELECT A FROM x").fetchall() == [(8,), (8,)]
+        assert running.fetchall() == [(7,)]
+
+
 def open_files():
     return len(os.listdir("/proc/self/fd"))
 
@@ -379,6 +395,7 @@ TESTS = [
     a_statement_sees_one_state,
     a_cursor_that_opens_late_sees_the_state_of_its_statement,
     a_cursor_that_is_not_read_to_its_end_keeps_nothing,
+    a_file_of_the_same_length_in_its_place_is_another_one,
     tables_of_all_sizes_are_those_of_a_copy,
     answers_longer_than_their_first_room_are_whole,
     a_row_is_found_by_its_place,

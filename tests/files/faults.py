@@ -255,6 +255,7 @@ def a_name_that_can_not_be_drawn_is_told_and_nothing_is_changed(room):
         for at, line in zip(drawn, draws):
             _, status, out, err = traced(room, words, ("-e", "trace=getrandom", "-e", f"inject=getrandom:error=EIO:when={at}"))
             assert (status, out, err.split("\n")[0]) == (1, b"", line), f"{words}, word {at}: {status} {out!r} {err!r}"
+            assert line != UNREAD or err.endswith("\nthe system gives no random bytes to draw a batch's name with: give it, by --batch O.N\n"), f"{words} said {err!r}"
             assert room.get("t") == held and os.listdir(room.path("d")) == parts
             room.only("d", "rows", "t")
 

@@ -160,7 +160,10 @@ def a_slow_reading_says_at_a_terminal_how_far_it_is_and_clears_the_line(room):
     shown, status = at_a_terminal(room, "import", "--no-header", "t", "pipe", pieces=[line] * 40, pause=0.1)
     steps = shown.split(CLEAR)
     assert status == 0 and steps[0] == b"" and steps[-1] == b"", f"it showed {shown!r}"
-    counts = [int(re.fullmatch(rb"reading pipe: ([0-9]+) bytes", step)[1]) for step in steps[1:-1]]
+    # A slow machine reads the table itself late enough that its line is due as well.
+    told = [re.fullmatch(rb"reading (?:pipe: ([0-9]+) bytes|.*t: [0-9]+ bytes of [0-9]+ bytes)", step) for step in steps[1:-1]]
+    assert all(told), f"it showed {shown!r}"
+    counts = [int(step[1]) for step in told if step[1]]
     assert 3 <= len(counts) <= 9 and counts == sorted(counts) and counts[0] >= 80 and counts[-1] <= 200, f"it showed {shown!r}"
 
 

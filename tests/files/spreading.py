@@ -125,12 +125,12 @@ def what_is_there_is_not_replaced(room):
     os.mkdir(room.path("d"))
     os.symlink("nowhere", room.path("link"))
     os.symlink("d", room.path("to-d"))
-    there = "there is a file or a folder of this name already"
+    there, folder = (f"there is a {kind} of this name already" for kind in ("file", "folder"))
     twice = "this OUT is named twice"
     for outs, named, why in (
-        (["t"], "t", there), (["a", "t"], "t", there), (["a", "d"], "d", there), (["d/"], "d/", there), (["a/", "link"], "link", there), (["link/", "a"], "link/", there),
+        (["t"], "t", there), (["a", "t"], "t", there), (["a", "d"], "d", folder), (["d/"], "d/", folder), (["a/", "link"], "link", there), (["link/", "a"], "link/", there),
         (["a", "a"], "a", twice), (["a", "b", "./a"], "./a", twice), (["a", "a/"], "a/", twice), (["d/a", "to-d/a"], "to-d/a", twice), (["a/", "d/../a"], "d/../a", twice), ([room.path("a"), "a"], "a", twice),
-        (["/"], "/", there), (["."], ".", there),
+        (["/"], "/", folder), (["."], ".", folder),
     ):
         room.refused("spread", "t", *outs, line="refused Exists", sentence=f"{named}: {why}")
         assert os.listdir(room.path("d")) == []

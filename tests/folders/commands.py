@@ -18,13 +18,11 @@ def a_folder_is_not_made_over_anything(room):
     os.mkdir(room.path("empty"))
     room.put("file", b"")
     os.symlink("nowhere", room.path("link"))
-    sentence = "{}: there is a file or a folder of this name already"
-    for name in ("empty/", "file/", "link/", "empty//"):
-        room.refused("create", name, "T", "A", "SMALLINT", line="refused Exists", sentence=sentence.format(name))
+    for name, kind in (("empty/", "folder"), ("file/", "file"), ("link/", "file"), ("empty//", "folder"), ("empty", "folder")):
+        room.refused("create", name, "T", "A", "SMALLINT", line="refused Exists", sentence=f"{name}: there is a {kind} of this name already")
         room.refused("create", name, "1T", "A", "SMALLINT", line="refused Exists")
     room.refused("create", "d/", "1T", "A", "SMALLINT", line="refused BadSchema")
     room.refused("create", "none/d/", "T", "A", "SMALLINT", line="refused WriteFault", sentence="none/d/: there is no such folder")
-    room.refused("create", "empty", "T", "A", "SMALLINT", line="refused Exists", sentence="empty: there is a file of this name already")
     room.only("empty", "file", "link")
 
 

@@ -117,7 +117,7 @@ CASES = [
     Case("help names the commands, shows an example and names the page of the script language", ["--help"], 0, [b"Usage: lanes <COMMAND>", *(f"\n  {name} ".encode() for name in COMMANDS), b"--version", b"table 2 T A SMALLINT", b"docs/FORMATS.md"]),
     Case("help of a command shows an example and names the page of the script language", ["run", "--help"], 0, [b"Usage: lanes run [OPTIONS] [SCRIPT]", b"--explain", b"table 2 T A SMALLINT", b"docs/FORMATS.md"]),
     Case("help of merge says what becomes of the file that is written", ["merge", "--help"], 0, [b"Usage: lanes merge [OPTIONS] <OUT> <IN>...", b"OUT is replaced as a whole", b"stays as it was if the merge is refused"]),
-    Case("the version is a line", ["--version"], 0, b"lanes 0.6.0\n"),
+    Case("the version is a line", ["--version"], 0, b"lanes 0.6.1\n"),
     Case(
         "refused lines are explained where that is asked for, and the replies stay as they are",
         ["run", "--explain"],
@@ -219,7 +219,7 @@ CASES = [
     Case("nor a column's", ["create", "t", "T", "a", "smallint", "min", "bigint"], 1, err=b'refused BadSchema\n"min" is a keyword of the query language and can\'t be a name\n', writes={"t": None}),
     Case("a name begins with a letter", ["create", "t", "T", "1a", "smallint"], 1, err=b'refused BadSchema\n"1a" is not a name: a name is a letter and up to 63 letters, digits or _\n', writes={"t": None}),
     Case("two columns have two names", ["create", "t", "T", "a", "smallint", "A", "bigint"], 1, err=b'refused BadSchema\ntwo columns have the name "A"\n', writes={"t": None}),
-    Case("a table has at most 32 columns", ["create", "t", "T", *(word for column in range(33) for word in (f"C{column}", "bigint"))], 1, err=b"refused BadSchema\na table has at most 32 columns, and these are 33\n", writes={"t": None}),
+    Case("a table has at most 32 columns", ["create", "t", "T", *(word for column in range(33) for word in (f"C{column}", "bigint"))], 1, err=b"refused BadSchema\na table has 1 to 32 columns, and these are 33\n", writes={"t": None}),
     Case("an unknown type is a fault of the command line", ["create", "t", "t", "a", "text"], 2, err=[b"each column is a name and its type"], writes={"t": None}),
     Case("a column without a type is one too", ["create", "t", "t", "a", "smallint", "b"], 2, err=[b"each column is a name and its type"], writes={"t": None}),
     Case("rows are imported from standard input", ["import", "--no-header", "--batch", "2.1", "t", "-"], 0, b"ok batches=1 new=1 rows=1 first=2.1\n", input=b"7\n", files={"t": ONE_ROW}, writes={"t": BOTH, ".t.lanes-lock": None}),

@@ -62,7 +62,6 @@ def by_value(values, rows, *held):
 # A thousand groups, in two partial answers that share every sixth.
 EVEN, THIRD = by_value(range(-500, 500, 2), 1, (1, 1, 1)), by_value(range(-500, 500, 3), 1, (2, 1, 1))
 ROWS_OF = {value: (value % 2 == 0) + ((value + 500) % 3 == 0) for value in range(-500, 500)}
-APART = b": batch %s is in both partial answers, or one file deletes rows of it that the other has: merge the two files, and make one partial answer from the result\n"
 MERGE = b"merge the two files%s make one partial answer from the result\n"
 FOLDER = {f"d/{hashlib.sha512(file).hexdigest()[:32]}.lanes": file for file in (ONE_ROW, SECOND_BATCH)}
 NO_BATCH = file_of(b"T")
@@ -92,11 +91,12 @@ PARTIAL_ANSWER_CASES = [
     Case("partial answers of files that share a batch are refused", ["combine", "b", "a"], 1, err=b"refused NotApart 2.1\na: batch 2.1 is in b too: give each file once, or " + MERGE % b" and", files={"a": TWO, "b": SECOND}),
     Case("a partial answer is refused whose file deletes rows that another has", ["combine", "a", "b"], 1, err=b"refused NotApart 2.1\nb: this has batch 2.1, and the file of a deletes rows of it: " + MERGE % b", and", files={"a": DELETING, "b": SECOND}),
     Case("so it is the other way round", ["combine", "b", "a"], 1, err=b"refused NotApart 2.1\na: its file deletes rows of batch 2.1, which b has: " + MERGE % b", and", files={"a": DELETING, "b": SECOND}),
-    Case("which of the two it is isn't known if one can't be read again", ["combine", "b", "-"], 1, err=b"refused NotApart 2.1\nstandard input" + APART % b"2.1", input=DELETING, files={"b": SECOND}),
-    Case("a partial answer of another query is refused", ["combine", "a", "b"], 1, err=b"refused QueryDiffers\nb: this is of the query SELECT COUNT(*),SUM( A) FROM T, and a of SELECT COUNT(*),SUM(A) FROM T\n", files={"a": FIRST, "b": OTHER_QUESTION}),
-    Case("so it is if it can't be read again", ["combine", "a", "-"], 1, err=b"refused QueryDiffers\nstandard input: the partial answers are of different queries, or the groups of one are not those of its query: make all partial answers with the same text\n", input=OTHER_QUESTION, files={"a": FIRST}),
+    Case("standard input is told so too", ["combine", "b", "-"], 1, err=b"refused NotApart 2.1\nstandard input: its file deletes rows of batch 2.1, which b has: " + MERGE % b", and", input=DELETING, files={"b": SECOND}),
+    Case("and so is a file after it", ["combine", "-", "b"], 1, err=b"refused NotApart 2.1\nb: this has batch 2.1, and the file of standard input deletes rows of it: " + MERGE % b", and", input=DELETING, files={"b": SECOND}),
+    Case("a partial answer of another query is refused", ["combine", "a", "b"], 1, err=b"refused QueryDiffers\nb: this partial answer is of the query `SELECT COUNT(*),SUM( A) FROM T`, but a is of `SELECT COUNT(*),SUM(A) FROM T`\n", files={"a": FIRST, "b": OTHER_QUESTION}),
+    Case("so is one of another query from standard input", ["combine", "a", "-"], 1, err=b"refused QueryDiffers\nstandard input: this partial answer is of the query `SELECT COUNT(*),SUM( A) FROM T`, but a is of `SELECT COUNT(*),SUM(A) FROM T`\n", input=OTHER_QUESTION, files={"a": FIRST}),
     Case("a partial answer of another table is refused", ["combine", "a", "b", "c"], 1, err=b"refused SchemaDiffers\nc: this holds the table U (A SMALLINT), but a holds T (A SMALLINT)\n", files={"a": FIRST, "b": counted(1, 7, (3, 1, 1)), "c": OF_U}),
-    Case("so it is from standard input", ["combine", "a", "-"], 1, err=b"refused SchemaDiffers\nstandard input: the tables differ in their names, columns or types\n", input=OF_U, files={"a": FIRST}),
+    Case("so is one of another table from standard input", ["combine", "a", "-"], 1, err=b"refused SchemaDiffers\nstandard input: this holds the table U (A SMALLINT), but a holds T (A SMALLINT)\n", input=OF_U, files={"a": FIRST}),
     Case("a file is no partial answer", ["combine", "a", "t"], 1, err=b"refused BadMagic\nt: this is a file or an offer of lanes\n", files={"a": FIRST, "t": ONE_ROW}),
     Case("a partial answer that is cut short is refused", ["combine", "a", "b"], 1, err=b"refused Truncated %d\nb, byte %d: the bytes end too early\n" % (len(SECOND) - 1, len(SECOND) - 1), files={"a": FIRST, "b": SECOND[:-1]}),
     Case("an empty partial answer is said to be", ["combine", "a", "-"], 1, err=b"refused Truncated 0\nstandard input: this is empty: did the command before it fail?\n", files={"a": FIRST}),

@@ -34,14 +34,6 @@ pub fn wrap_lanes(lane_width: usize, lanes: Simd<u64, 16>) -> Simd<i64, 16>
     Simd::from_array(wrapped)
 }
 
-/// The sum modulo two to the power of `lane_width`, which is 8, 16, 32 or 64, read as signed.
-pub fn wrapping_sum(lane_width: usize, a: i64, b: i64) -> i64
-    requires { IsLaneWidth lane_width }
-    ensures { result ≡ int_wrap (integer_width lane_width) (a +ℤ b) }
-{
-    wrap(lane_width, a.wrapping_add(b).cast_unsigned())
-}
-
 /// The sum with a packed number, which is unsigned, modulo two to the power of `lane_width`, which is 8, 16, 32 or 64,
 /// read as signed.
 pub fn wrapping_sum_with(lane_width: usize, a: i64, number: u64) -> i64

@@ -16,9 +16,7 @@ mod values;
 mod word_bytes;
 mod words;
 
-pub use arithmetic::{
-    gap, width_of, wrap, wrap_lanes, wrapping_difference, wrapping_sum, wrapping_sum_with,
-};
+pub use arithmetic::{gap, width_of, wrap, wrap_lanes, wrapping_difference, wrapping_sum_with};
 pub use lane_word::LaneWord;
 pub use laws::{
     packed_vectors_are_blocks_of_bytes, packing_undoes_unpacking, unpacking_undoes_packing,

@@ -30,5 +30,5 @@ pub use offer_writing::write_offer;
 pub use opening::{Checked, check, open, open_bytes};
 pub use schema_reading::read_schema;
 pub use schema_writing::write_schema;
-pub use summary_reading::{read_head, read_name_count, read_summary, read_summary_bytes};
+pub use summary_reading::{read_head, read_name_count, read_summary};
 pub use summary_writing::write_summary;

@@ -162,7 +162,7 @@ fn read_names(alloc: Global, total: usize, bytes: &[u8]) -> Result<(Vec<BatchNam
 /// `BadMagic`, `BadVersion`, `BadSchema`, `BadName`, `BadCount`, `BadOrder` or `TrailingBytes`. It grows as it reads, so `Memory`
 /// can come in place of any of them.
 #[tactic(auto, unfolding(crate::specs::SummaryBytes::summary))]
-pub fn read_summary_bytes(alloc: Global, bytes: &[u8]) -> Result<(Schema, Vec<BatchName>), Refusal>
+fn read_summary_bytes(alloc: Global, bytes: &[u8]) -> Result<(Schema, Vec<BatchName>), Refusal>
     ensures { Reads (λ x. (x.0, x.1.items)) result (read_whole summary bytes.now) }
 {
     let total = bytes.len();

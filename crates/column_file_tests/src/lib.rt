@@ -4,6 +4,8 @@
 #[cfg(test)]
 mod file_tests;
 #[cfg(test)]
+mod readme_example;
+#[cfg(test)]
 mod refused_tests;
 #[cfg(test)]
 mod stop_tests;

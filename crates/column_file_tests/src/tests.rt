@@ -1,6 +1,7 @@
 //! Summaries in bytes, at bytes and places worked out by hand from the format.
-use column_file::read_summary_bytes;
+use column_file::read_summary;
 use std::test::Fail;
+use table_model::Counted;
 use test_support::agree;
 
 /// The summary of T(A SMALLINT) with the names 1.1 and 1.3, between which one is lacked: 33 bytes.
@@ -9,8 +10,8 @@ pub(crate) const TWO_NAMES: &[u8] =
 
 #[test]
 fn a_summary_of_two_names_is_read(rt: HostRuntime) -> Result<(), Fail> {
-    let (schema, names) = read_summary_bytes(rt.alloc(), TWO_NAMES)?;
-    agree(schema.table(), "T")?;
-    agree(schema.columns(), 1)?;
-    agree(names.len(), 2)
+    let summary = read_summary(rt.alloc(), &mut Counted::new(TWO_NAMES))?;
+    agree(summary.schema().table(), "T")?;
+    agree(summary.schema().columns(), 1)?;
+    agree(summary.names().len(), 2)
 }

@@ -288,7 +288,7 @@ const MORE_REQUESTS: [(&[&str], &str); 48] = [
     ),
 ];
 
-/// What the first of these command lines that asks for something else asks for, and what it should. None if there is none.
+/// What the first of these command lines that asks for something else asks for, and what it should. None if all ask for what they should.
 fn first_other(alloc: Global, requests: &[(&[&str], &str)]) -> Result<Option<String>, AllocError> {
     for &(words, want) in requests {
         let text = asked(alloc, words)?;

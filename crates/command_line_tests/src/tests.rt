@@ -14,7 +14,7 @@ fn words_of(alloc: Global, words: &[&str]) -> Result<Vec<String>, AllocError> {
     Ok(given)
 }
 
-/// What the command line of these words prints where it runs nothing.
+/// What the command line of these words prints if it runs nothing.
 fn text_of(alloc: Global, words: &[&str]) -> Result<String, AllocError> {
     let given = words_of(alloc, words)?;
     match read_request(alloc, given.as_slice()) {
@@ -54,7 +54,7 @@ const TEXTS: [(&[&str], &str); 17] = [
     (&["lanes", "pack", "--help"], PACK_HELP),
     (&["lanes", "partial", "--help"], PARTIAL_HELP),
     (&["lanes", "combine", "--help"], COMBINE_HELP),
-    (&["lanes", "--version"], "lanes 0.6.0\n"),
+    (&["lanes", "--version"], "lanes 0.6.1\n"),
     (
         &["lanes"],
         "error: 'lanes' requires a subcommand but one was not provided\n  [subcommands: create, import, query, partial, combine, finish, delete, delete-rows, forget, dump, inspect, summary, offer, apply, check, merge, spread, pack, run, help]\n\nUsage: lanes <COMMAND>\n\nFor more information, try '--help'.\n",

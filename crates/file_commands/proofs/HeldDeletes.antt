@@ -1,8 +1,10 @@
 -- Rows of a batch are deleted if the batch is held.
-use Rattle.std.specs.Prelude.{◌≡◌, ◌↔◌, ℕ, Bool, true, false, cond, List, [], Option, Some, None, Result, Ok, Err}
-use Rattle.std.proofs.Common.{refl, sym, ap, ◌∙◌}
+use Rattle.std.specs.Prelude.{◌≡◌, ◌⊎◌, ◌↔◌, ℕ, Bool, true, false, cond, List, [], Option, Some, None, Result, Ok, Err}
+use Rattle.std.proofs.Common.{inl, inr, refl, sym, ap, ◌∙◌}
+use Rattle.table_model.specs.Outcome.{Gives}
 use Rattle.table_model.specs.declared.names.RowName.{RowName}
 use Rattle.table_model.specs.declared.refusal.Refusal.{Refusal}
+use Rattle.table_model.specs.declared.refusal.Refusal.TheVariants.{Memory}
 use Rattle.catalogue_join.specs.RowRange.{rows_between}
 use Rattle.replica_store.specs.Replica.{Replica, delete_fault, deleted_rows, unless_fault, with_deleted}
 use Rattle.replica_files.specs.Commands.{Changes, file_of, held_in}
@@ -13,6 +15,11 @@ use Rattle.file_commands.specs.declared.held_rows.HeldRows.{HeldRows}
 
 pub ok_one : {X : Type 0} (x y : X) → ◌≡◌ {A = Result X Refusal} (Ok x) (Ok y) → x ≡ y
 ok_one x y e = cc
+
+-- what has no fault is refused for memory alone
+pub no_fault : {X : Type 0} (x : X) (e : Refusal) → Gives {X = X} {Y = X} (λ (y : X). y) (Err e) (Ok x) → e ≡ Memory
+no_fault x e (inl is) = absurd (let y : ⊥ = cc in y)
+no_fault x e (inr is) = is.0
 
 -- a delete that is made has no fault, and makes what it says
 unfaulted : (fault : Option Refusal) (made new : Replica) → unless_fault {X = Unit {0} × Replica} fault (Ok (tt, made)) ≡ Ok (tt, new) → (fault ≡ None) × (made ≡ new)

@@ -1,2 +1,5 @@
 pub mod CrashProofs
 pub mod HeldDeletes
+pub mod Whys
+pub mod Throughout
+pub mod Homes

@@ -1,3 +1,7 @@
 pub mod Finished
 pub mod CrashLaws
 pub mod HeldDeletes
+pub mod Refused
+pub mod Throughout
+pub mod Homes
+pub mod HomeLaws

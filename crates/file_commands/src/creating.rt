@@ -1,10 +1,12 @@
 //! Making a file.
-ghost use Rattle.std.specs.Prelude.{◌≢◌, map, IfOk, IfErr};
+ghost use Rattle.std.specs.Prelude.{◌≡◌, ◌≢◌, ◌⊎◌, map, Err, IfOk, IfErr, MatchResult};
 ghost use Rattle.std.specs.String.{string_bytes};
 ghost use Rattle.table_model.specs.Table.{schema_of};
-ghost use Rattle.table_model.specs.declared.refusal.Refusal.TheVariants.{WriteFault};
+ghost use Rattle.table_model.specs.declared.refusal.Refusal.TheVariants.{Memory, WriteFault};
+ghost use Rattle.file_replacing.specs.Owning.{GivesBack};
 ghost use Rattle.file_replacing.specs.Safe.{StaysOld};
 ghost use Rattle.file_commands.specs.CrashLaws.{Creating, HasCreated, IsEmptyFile};
+ghost use Rattle.file_commands.specs.Refused.{IsWhyUnmade};
 
 use crate::putting::put;
 use crate::under_lock::{leave, refusal_in_memory};
@@ -14,7 +16,9 @@ use table_model::{ColType, Counted, Refusal};
 
 /// The canonical file of the empty table of a name and columns.
 fn created(alloc: Global, table: &str, columns: &[(&str, ColType)]) -> Result<Vec<u8>, Refusal>
-    ensures { IfOk result (λ bytes. IsEmptyFile (schema_of table.now (map (λ c. (c.0.now, c.1)) columns.now)) bytes.items) }
+    ensures { MatchResult result
+        (λ bytes. IsEmptyFile (schema_of table.now (map (λ c. (c.0.now, c.1)) columns.now)) bytes.items)
+        (λ e. (e ≡ Memory) ⊎ (schema_of table.now (map (λ c. (c.0.now, c.1)) columns.now) ≡ Err e)) }
 {
     let mut writer = Counted::new(Vec::new(alloc));
     match replica_files::create(alloc, table, columns, &mut writer) {
@@ -23,7 +27,7 @@ fn created(alloc: Global, table: &str, columns: &[(&str, ColType)]) -> Result<Ve
     }
 }
 
-/// Makes the file of an empty table, whose lock is had, under the refusals of [`replica_files::create`].
+/// Makes the file of an empty table, whose lock the caller has, under the refusals of [`replica_files::create`].
 pub fn create<F: Folder>(
     alloc: Global,
     folder: &mut F,
@@ -34,6 +38,8 @@ pub fn create<F: Folder>(
     ensures any_moment { Creating (schema_of table.now (map (λ c. (c.0.now, c.1)) columns.now)) (string_bytes place.now.lock) (string_bytes place.now.name) (F.history folder.old) (F.history folder.new) }
     ensures answered { IfOk result (λ how. HasCreated (schema_of table.now (map (λ c. (c.0.now, c.1)) columns.now)) how (string_bytes place.now.lock) (string_bytes place.now.name) (F.history folder.old) (F.history folder.new)) }
     ensures refused { IfErr result (λ e. e ≢ WriteFault → StaysOld (string_bytes place.now.lock) (string_bytes place.now.name) (F.history folder.old) (F.history folder.new)) }
+    ensures why { IfErr result (λ e. IsWhyUnmade (schema_of table.now (map (λ c. (c.0.now, c.1)) columns.now)) (F.history folder.old) (F.history folder.new) e) }
+    ensures own { GivesBack (string_bytes place.now.lock) (F.history folder.old) (F.history folder.new) }
 {
     match created(alloc, table, columns) {
         Ok(new) => put(folder, place, new.as_slice()),

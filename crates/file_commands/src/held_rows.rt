@@ -1,11 +1,13 @@
 //! Deleting rows of a file's batch only if the file holds the batch.
-ghost use Rattle.std.specs.Prelude.{◌≡◌, ◌≢◌, [], Some, Ok, IfOk, IfErr};
+ghost use Rattle.std.specs.Prelude.{◌≡◌, ◌≢◌, ◌⊎◌, [], Some, Ok, Err, IfOk, IfErr, MatchResult};
 ghost use Rattle.std.specs.String.{string_bytes};
-ghost use Rattle.table_model.specs.declared.refusal.Refusal.TheVariants.{WriteFault};
+ghost use Rattle.table_model.specs.declared.refusal.Refusal.TheVariants.{Memory, WriteFault};
+ghost use Rattle.file_replacing.specs.Owning.{GivesBack};
 ghost use Rattle.file_replacing.specs.Safe.{StaysOld};
 ghost use Rattle.replica_store.specs.Replica.{Replica};
 ghost use Rattle.replica_files.specs.Commands.{Changes, held_in};
 ghost use Rattle.file_commands.specs.CrashLaws.{BeforeOrAfter, HasAnswered};
+ghost use Rattle.file_commands.specs.Refused.{IsRefusedOver, IsWhyRefused};
 ghost use Rattle.file_commands.specs.HeldDeletes.{deleted_if_held, holds};
 
 use crate::Outcome;
@@ -27,7 +29,9 @@ pub struct HeldRows {
 
 /// Whether the file of these bytes holds a batch.
 fn holds(alloc: Global, file: &[u8], name: BatchName) -> Result<bool, Refusal>
-    ensures { IfOk result (λ held. (r : Replica) → held_in file.now ≡ Ok r → held ≡ holds r name) }
+    ensures { MatchResult result
+        (λ held. (r : Replica) → held_in file.now ≡ Ok r → held ≡ holds r name)
+        (λ e. (held_in file.now ≡ Err e) ⊎ (e ≡ Memory)) }
 {
     let store = open_bytes(alloc, file, Origin(1))?;
     let summary = store.summary(alloc)?;
@@ -41,7 +45,9 @@ fn held_rows_deleted(
     first: RowName,
     last: u16,
 ) -> Result<(HeldRows, Vec<u8>), Refusal>
-    ensures { IfOk result (λ made. Changes (λ answer. answer.is_held) (λ answer. answer.is_changed) (Ok made.0) (Some file.now) (Some []) (Some made.1.items) (λ r. deleted_if_held r first last)) }
+    ensures { MatchResult result
+        (λ made. Changes (λ answer. answer.is_held) (λ answer. answer.is_changed) (Ok made.0) (Some file.now) (Some []) (Some made.1.items) (λ r. deleted_if_held r first last))
+        (λ e. IsRefusedOver (λ r. deleted_if_held r first last) file.now e) }
 {
     let (deleted, new) = rows_deleted(alloc, file, first, last)?;
     let is_held = holds(alloc, file, first.batch)?;
@@ -60,7 +66,7 @@ fn held_rows_deleted(
     }
 }
 
-/// Deletes rows by their names, if their batch is held, of a file whose lock is had, under the refusals of
+/// Deletes rows by their names, if their batch is held, of a file whose lock the caller has, under the refusals of
 /// [`replica_files::delete_rows`].
 pub fn delete_held_rows<F: Folder>(
     alloc: Global,
@@ -72,6 +78,8 @@ pub fn delete_held_rows<F: Folder>(
     ensures any_moment { BeforeOrAfter (λ r. deleted_if_held r first last) (string_bytes place.now.lock) (string_bytes place.now.name) (F.history folder.old) (F.history folder.new) }
     ensures answered { IfOk result (λ done. HasAnswered (λ answer. answer.is_held) (λ r. deleted_if_held r first last) done.answer done.left (string_bytes place.now.lock) (string_bytes place.now.name) (F.history folder.old) (F.history folder.new)) }
     ensures refused { IfErr result (λ e. e ≢ WriteFault → StaysOld (string_bytes place.now.lock) (string_bytes place.now.name) (F.history folder.old) (F.history folder.new)) }
+    ensures why { IfErr result (λ e. IsWhyRefused (λ r. deleted_if_held r first last) (string_bytes place.now.name) (F.history folder.old) (F.history folder.new) e) }
+    ensures own { GivesBack (string_bytes place.now.lock) (F.history folder.old) (F.history folder.new) }
 {
     let old = read_file(alloc, folder, place)?;
     match held_rows_deleted(alloc, old.as_slice(), first, last) {

@@ -1,10 +1,14 @@
-//! A file whose lock is had: it is read, and replaced or left.
+//! A file whose lock the caller has: it is read, and replaced or left.
 ghost use Rattle.std.specs.Prelude.{◌≡◌, ◌∷◌, Some, true, IfOk, IfErr, OnErr};
 ghost use Rattle.std.specs.String.{string_bytes};
 ghost use Rattle.file_replacing.specs.Event.{Read};
+ghost use Rattle.file_replacing.specs.Failed.{HasFailed};
 ghost use Rattle.file_replacing.specs.Locking.{OnlyLocks};
+ghost use Rattle.file_replacing.specs.Owning.{GivesBack};
 ghost use Rattle.table_model.specs.declared.refusal.Refusal.TheVariants.{WriteFault};
+ghost use Rattle.column_file.specs.Input.{IsUnread};
 ghost use Rattle.file_commands.specs.Finished.{AtAnyMoment, Finishes, in_memory};
+ghost use Rattle.file_commands.specs.Refused.{IsWhyUnread, over_memory};
 
 use crate::Left;
 use crate::putting::put;
@@ -13,7 +17,7 @@ use std::alloc::Global;
 use std::io::{self, ErrorKind};
 use table_model::Refusal;
 
-/// The bytes of the file. Where they can't be read the lock is given back.
+/// The bytes of the file. If they can't be read, the lock is given back.
 pub(crate) fn read_file<F: Folder>(
     alloc: Global,
     folder: &mut F,
@@ -21,6 +25,8 @@ pub(crate) fn read_file<F: Folder>(
 ) -> Result<Vec<u8>, Refusal>
     ensures read { IfOk result (λ bytes. F.history folder.new ≡ Read (string_bytes place.now.name) (Some (Some bytes.items)) ∷ F.history folder.old) }
     ensures left { OnErr result (OnlyLocks (string_bytes place.now.lock) (F.history folder.old) (F.history folder.new)) }
+    ensures own { OnErr result (GivesBack (string_bytes place.now.lock) (F.history folder.old) (F.history folder.new)) }
+    ensures why { IfErr result (λ e. IsWhyUnread (string_bytes place.now.name) (F.history folder.old) (F.history folder.new) e) }
 {
     match folder.read(alloc, place.name()) {
         Ok(Some(bytes)) => Ok(bytes),
@@ -36,7 +42,9 @@ pub(crate) fn read_file<F: Folder>(
 }
 
 /// What a file that can't be read is refused as.
-fn refusal_of_read(error: &io::Error) -> Refusal {
+fn refusal_of_read(error: &io::Error) -> Refusal
+    ensures { IsUnread result }
+{
     if error.kind() == ErrorKind::OutOfMemory {
         Refusal::Memory
     } else {
@@ -44,9 +52,10 @@ fn refusal_of_read(error: &io::Error) -> Refusal {
     }
 }
 
-/// Gives the lock back, with the file as it was.
-pub(crate) fn leave<F: Folder>(folder: &mut F, place: &Place)
-    ensures { OnlyLocks (string_bytes place.now.lock) (F.history folder.old) (F.history folder.new) }
+/// Gives the lock of a file back, which the caller has, with the file as it was.
+pub fn leave<F: Folder>(folder: &mut F, place: &Place)
+    ensures locks { OnlyLocks (string_bytes place.now.lock) (F.history folder.old) (F.history folder.new) }
+    ensures own { GivesBack (string_bytes place.now.lock) (F.history folder.old) (F.history folder.new) }
 {
     let _ = folder.remove(place.lock());
 }
@@ -60,7 +69,8 @@ pub(crate) fn finish<F: Folder>(
 ) -> Result<Left, Refusal>
     ensures any_moment { AtAnyMoment is_changed (string_bytes place.now.lock) (string_bytes place.now.name) bytes.now (F.history folder.old) (F.history folder.new) }
     ensures finished { IfOk result (λ how. Finishes how is_changed (string_bytes place.now.lock) (string_bytes place.now.name) bytes.now (F.history folder.old) (F.history folder.new)) }
-    ensures fault { IfErr result (λ e. (e ≡ WriteFault) × (is_changed ≡ true)) }
+    ensures fault { IfErr result (λ e. (e ≡ WriteFault) × (is_changed ≡ true) × HasFailed (F.history folder.old) (F.history folder.new)) }
+    ensures own { GivesBack (string_bytes place.now.lock) (F.history folder.old) (F.history folder.new) }
 {
     if is_changed {
         let how = put(folder, place, bytes)?;
@@ -79,6 +89,16 @@ pub(crate) fn refusal_in_memory(refusal: Refusal) -> Refusal
 {
     match refusal {
         Refusal::WriteFault => Refusal::Memory,
+        other => other,
+    }
+}
+
+/// What a command that read and wrote bytes in memory is refused as: a read or a write that failed ran out of memory.
+pub(crate) fn refusal_over_memory(refusal: Refusal) -> Refusal
+    ensures { result ≡ over_memory refusal }
+{
+    match refusal {
+        Refusal::ReadFault | Refusal::WriteFault => Refusal::Memory,
         other => other,
     }
 }

@@ -14,5 +14,5 @@ module _ (lock name : List ℕ) where
     kept = λ k. k;
     left = λ c l. inl l;
     shown = λ c l. inl l;
-    held = λ has. record { leads = refl; bytes = refl; synced = refl; old = λ c l. l; reads = λ c r. r; apart = λ a. a };
+    held = λ has. record { leads = refl; bytes = refl; synced = λ s. s; old = λ c l. l; reads = λ c r. r; apart = λ a. a };
   }

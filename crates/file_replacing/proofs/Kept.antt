@@ -2,8 +2,8 @@
 use Rattle.std.proofs.Common.{◌≡◌, ◌≢◌, ◌⊎◌, inl, inr, ⊎_elim, ℕ, true, false, List, [], ◌∷◌, Option, Some, None, refl, sym, ◌∙◌, ap, subst}
 use Rattle.std.proofs.lemmas.Bool.{cond-true, cond-false}
 use Rattle.file_replacing.specs.Event.{Event, Opened, Locked, Compared, Emptied, Wrote, Synced, Renamed, Removed, Settled, SyncedFile, Read, unanswered}
-use Rattle.file_replacing.specs.Disk.{Disk, Names, lead, move, Reaches, MayName, IsApart, IsFresh, led, moved, opened, Takes}
-use Rattle.file_replacing.specs.Safe.{Run, Moment, IsKept, IsOurs, AllOurs, Restarts}
+use Rattle.file_replacing.specs.Disk.{Disk, Names, lead, move, MayName, IsApart, IsFresh, led, moved, opened, Takes}
+use Rattle.file_replacing.specs.Safe.{Run, Moment, IsKept, IsOurs, AllOurs}
 use Rattle.file_replacing.proofs.Lemmas.{other_name, same_bytes, led_names}
 
 some_none : (file : ℕ) → None ≡ Some file → ⊥
@@ -29,66 +29,38 @@ module _ (lock name : List ℕ) (apart : lock ≢ name) where
       let before = led_names v lock name entry names other may in
       was before.0 before.1 (sym before.2 ∙ at)
 
-  kept_fresh : (v : Disk) (file : ℕ) → IsFresh v file → IsKept lock name v → IsKept lock name (led v lock (Some file))
-  kept_fresh v file fresh kept = record { now = now; after = after }
-    where
-      now : (f : ℕ) → (led v lock (Some file)).names lock ≡ Some f → IsApart (led v lock (Some file)) name f
-      now f at =
-          let e : Some file ≡ Some f = sym (cond-true _ (Some file) (v.names lock) (same_bytes lock)) ∙ at in
-          let same : file ≡ f = cc in
-          subst (λ (x : ℕ). IsApart (led v lock (Some file)) name x) same (apart_led v (Some file) file (fresh name))
+  -- a file that was made is kept, whatever was there before
+  kept_fresh : (v : Disk) (file : ℕ) → IsFresh v file → IsKept lock name (led v lock (Some file))
+  kept_fresh v file fresh f at =
+      let e : Some file ≡ Some f = sym (cond-true _ (Some file) (v.names lock) (same_bytes lock)) ∙ at in
+      let same : file ≡ f = cc in
+      subst (λ (x : ℕ). IsApart (led v lock (Some file)) name x) same (apart_led v (Some file) file (fresh name))
 
-      after : (names : Names) → MayName (led v lock (Some file)) names → (f : ℕ) → names lock ≡ Some f → names name ≢ Some f
-      after names may f at here =
-          let before = led_both v lock name (Some file) names other may in
-          ⊎_elim
-          (λ same. kept.after before.0 before.1 f (sym same ∙ at) (sym before.2 ∙ here))
-          (λ new.
-          let e : Some file ≡ Some f = sym new ∙ at in
-          let same : file ≡ f = cc in
-          fresh name before.0 before.1 (sym before.2 ∙ here ∙ ap (λ (x : ℕ). Some x) (sym same)))
-          before.3
-
-  kept_removed : (v : Disk) → IsKept lock name v → IsKept lock name (led v lock None)
-  kept_removed v kept = record {
-    now = λ f at. absurd (some_none f (sym (cond-true _ None (v.names lock) (same_bytes lock)) ∙ at));
-    after = λ names may f at here.
-        let before = led_both v lock name None names other may in
-        ⊎_elim
-        (λ same. kept.after before.0 before.1 f (sym same ∙ at) (sym before.2 ∙ here))
-        (λ gone. some_none f (sym gone ∙ at))
-        before.3;
-  }
+  kept_removed : (v : Disk) → IsKept lock name (led v lock None)
+  kept_removed v f at = absurd (some_none f (sym (cond-true _ None (v.names lock) (same_bytes lock)) ∙ at))
 
   -- where the lock's file has moved, there is none under the lock's name
   pub none_moved : (file : ℕ) (names : Names) → (move lock name file names) lock ≡ None
   none_moved file names = cond-false _ (Some file) _ (other_name lock name apart) ∙ cond-true _ None (names lock) (same_bytes lock)
 
-  kept_moved : (v : Disk) (file : ℕ) → IsKept lock name v → IsKept lock name (moved v lock name file)
-  kept_moved v file kept = record { now = λ f at. absurd (some_none f (sym (none_moved file v.names) ∙ at)); after = after }
-    where
-      after : (names : Names) → MayName (moved v lock name file) names → (f : ℕ) → names lock ≡ Some f → names name ≢ Some f
-      after names (inl now) f at here = some_none f (sym (none_moved file v.names) ∙ sym (ap (λ (n : Names). n lock) now) ∙ at)
-      after names (inr reached) f at here =
-          ⊎_elim
-          (λ (same : names ≡ reached.0). kept.after reached.0 (inr reached.1) f (sym (ap (λ (n : Names). n lock) same) ∙ at) (sym (ap (λ (n : Names). n name) same) ∙ here))
-          (λ (done : names ≡ move lock name file reached.0). some_none f (sym (none_moved file reached.0) ∙ sym (ap (λ (n : Names). n lock) done) ∙ at))
-          reached.2
+  kept_moved : (v : Disk) (file : ℕ) → IsKept lock name (moved v lock name file)
+  kept_moved v file f at = absurd (some_none f (sym (none_moved file v.names) ∙ at))
 
   -- only the names count
   kept_along : (v w : Disk) → w.names ≡ v.names → ((names : Names) → MayName w names → MayName v names) → IsKept lock name v → IsKept lock name w
-  kept_along v w same fewer kept = record {
-    now = λ f at names may. kept.now f (sym (ap (λ (n : Names). n lock) same) ∙ at) names (fewer names may);
-    after = λ names may. kept.after names (fewer names may);
-  }
+  kept_along v w same fewer kept f at names may = kept f (sym (ap (λ (n : Names). n lock) same) ∙ at) names (fewer names may)
 
-  kept_call : (call : Event) (v w : Disk) → IsOurs lock name call → Takes call v w → IsKept lock name v → IsKept lock name w
-  kept_call (Opened n true) v w ours (inl (f, at, is)) kept = kept_along v w (ap (λ (x : Disk). x.names) is) (λ names may. subst (λ (x : Disk). MayName x names) is may) kept
-  kept_call (Opened n true) v w ours (inr (f, none, fresh, is)) kept =
-      subst (λ (x : Disk). IsKept lock name x) (sym is) (kept_along (led v lock (Some f)) (opened (led v n (Some f)) f) (ap (λ (m : List ℕ). (led v m (Some f)).names) ours) (λ names may. subst (λ (m : List ℕ). MayName (led v m (Some f)) names) ours may) (kept_fresh v f fresh kept))
-  kept_call (Opened n false) v w ours (inl is) kept = subst (λ (x : Disk). IsKept lock name x) (sym is) kept
-  kept_call (Opened n false) v w ours (inr (f, none, fresh, is)) kept =
-      subst (λ (x : Disk). IsKept lock name x) (sym is) (subst (λ (m : List ℕ). IsKept lock name (led v m (Some f))) (sym ours) (kept_fresh v f fresh kept))
+  -- a file that was made under the lock's name is kept, whatever was there before
+  pub kept_made : (v w : Disk) → Takes (Opened lock (Some true)) v w → IsKept lock name w
+  kept_made v w (f, none, fresh, is) =
+      subst (λ (x : Disk). IsKept lock name x) (sym is) (kept_along (led v lock (Some f)) (opened (led v lock (Some f)) f) refl (λ names may. may) (kept_fresh v f fresh))
+
+  pub kept_call : (call : Event) (v w : Disk) → IsOurs lock name call → Takes call v w → IsKept lock name v → IsKept lock name w
+  kept_call (Opened n (Some false)) v w ours (f, at, is) kept = kept_along v w (ap (λ (x : Disk). x.names) is) (λ names may. subst (λ (x : Disk). MayName x names) is may) kept
+  kept_call (Opened n (Some true)) v w ours takes kept = kept_made v w (subst (λ (m : List ℕ). Takes (Opened m (Some true)) v w) ours takes)
+  kept_call (Opened n None) v w ours (inl is) kept = subst (λ (x : Disk). IsKept lock name x) (sym is) kept
+  kept_call (Opened n None) v w ours (inr (f, none, fresh, is)) kept =
+      subst (λ (x : Disk). IsKept lock name x) (sym is) (subst (λ (m : List ℕ). IsKept lock name (led v m (Some f))) (sym ours) (kept_fresh v f fresh))
   kept_call (Locked true) v w ours is kept = kept_along v w (ap (λ (x : Disk). x.names) is) (λ names may. subst (λ (x : Disk). MayName x names) is may) kept
   kept_call (Locked false) v w ours is kept = subst (λ (x : Disk). IsKept lock name x) (sym is) kept
   kept_call (Compared n true) v w ours is kept = subst (λ (x : Disk). IsKept lock name x) (sym is.1) kept
@@ -100,13 +72,13 @@ module _ (lock name : List ℕ) (apart : lock ≢ name) where
   kept_call (Synced true) v w ours is kept = kept_along v w (ap (λ (x : Disk). x.names) is) (λ names may. subst (λ (x : Disk). MayName x names) is may) kept
   kept_call (Synced false) v w ours is kept = kept_along v w (ap (λ (x : Disk). x.names) is) (λ names may. subst (λ (x : Disk). MayName x names) is may) kept
   kept_call (Renamed from to true) v w ours (f, at, is) kept =
-      subst (λ (x : Disk). IsKept lock name x) (sym is) (subst (λ (m : List ℕ). IsKept lock name (moved v m to f)) (sym ours.0) (subst (λ (m : List ℕ). IsKept lock name (moved v lock m f)) (sym ours.1) (kept_moved v f kept)))
+      subst (λ (x : Disk). IsKept lock name x) (sym is) (subst (λ (m : List ℕ). IsKept lock name (moved v m to f)) (sym ours.0) (subst (λ (m : List ℕ). IsKept lock name (moved v lock m f)) (sym ours.1) (kept_moved v f)))
   kept_call (Renamed from to false) v w ours (inl is) kept = subst (λ (x : Disk). IsKept lock name x) (sym is) kept
   kept_call (Renamed from to false) v w ours (inr (f, at, is)) kept =
-      subst (λ (x : Disk). IsKept lock name x) (sym is) (subst (λ (m : List ℕ). IsKept lock name (moved v m to f)) (sym ours.0) (subst (λ (m : List ℕ). IsKept lock name (moved v lock m f)) (sym ours.1) (kept_moved v f kept)))
-  kept_call (Removed n true) v w ours is kept = subst (λ (x : Disk). IsKept lock name x) (sym is) (subst (λ (m : List ℕ). IsKept lock name (led v m None)) (sym ours) (kept_removed v kept))
+      subst (λ (x : Disk). IsKept lock name x) (sym is) (subst (λ (m : List ℕ). IsKept lock name (moved v m to f)) (sym ours.0) (subst (λ (m : List ℕ). IsKept lock name (moved v lock m f)) (sym ours.1) (kept_moved v f)))
+  kept_call (Removed n true) v w ours is kept = subst (λ (x : Disk). IsKept lock name x) (sym is) (subst (λ (m : List ℕ). IsKept lock name (led v m None)) (sym ours) (kept_removed v))
   kept_call (Removed n false) v w ours (inl is) kept = subst (λ (x : Disk). IsKept lock name x) (sym is) kept
-  kept_call (Removed n false) v w ours (inr is) kept = subst (λ (x : Disk). IsKept lock name x) (sym is) (subst (λ (m : List ℕ). IsKept lock name (led v m None)) (sym ours) (kept_removed v kept))
+  kept_call (Removed n false) v w ours (inr is) kept = subst (λ (x : Disk). IsKept lock name x) (sym is) (subst (λ (m : List ℕ). IsKept lock name (led v m None)) (sym ours) (kept_removed v))
   kept_call (Settled true) v w ours is kept = subst (λ (x : Disk). IsKept lock name x) (sym is) (kept_along v (record v { synced = v.names; changes = [] }) refl (λ names may. inl (⊎_elim (λ x. x) (λ x. x) may)) kept)
   kept_call (Settled false) v w ours is kept = subst (λ (x : Disk). IsKept lock name x) (sym is) kept
   kept_call (SyncedFile n true) v w ours (f, at, is) kept = kept_along v w (ap (λ (x : Disk). x.names) is) (λ names may. subst (λ (x : Disk). MayName x names) is may) kept
@@ -115,7 +87,7 @@ module _ (lock name : List ℕ) (apart : lock ≢ name) where
   kept_call (Read n None) v w ours is kept = subst (λ (x : Disk). IsKept lock name x) (sym is) kept
 
   ours_begun : (call : Event) → IsOurs lock name call → IsOurs lock name (unanswered call)
-  ours_begun (Opened n ok) ours = ours
+  ours_begun (Opened n made) ours = ours
   ours_begun (Locked got) ours = ours
   ours_begun (Compared n same) ours = ours
   ours_begun (Emptied ok) ours = ours
@@ -139,18 +111,3 @@ module _ (lock name : List ℕ) (apart : lock ≢ name) where
     kept_moment (call ∷ earlier) d e ours kept (inr (inl (v, w, run, takes, others))) =
         others.kept (kept_call (unanswered call) v w (ours_begun call ours.0) takes (kept_run earlier d v ours.1 kept run))
     kept_moment (call ∷ earlier) d e ours kept (inr (inr moment)) = kept_moment earlier d e ours.1 kept moment
-
-  -- the next command may begin on what a loss of power leaves
-  pub kept_restart : (d e : Disk) → IsKept lock name d → Restarts d e → IsKept lock name e
-  kept_restart d e kept restarts = record {
-    now = λ f at names may here. kept.after e.names restarts.names f at (sym (ap (λ (n : Names). n name) (one names may)) ∙ here);
-    after = λ names may f at here. kept.after e.names restarts.names f (sym (ap (λ (n : Names). n lock) (one names may)) ∙ at) (sym (ap (λ (n : Names). n name) (one names may)) ∙ here);
-  }
-    where
-      reached : (changes : List (Names → Names)) (names : Names) → changes ≡ [] → Reaches e.synced changes names → names ≡ e.synced
-      reached [] names none r = r
-      reached (c ∷ cs) names none r = absurd (let x : ⊥ = cc in x)
-
-      one : (names : Names) → MayName e names → names ≡ e.names
-      one names (inl now) = now
-      one names (inr r) = reached e.changes names restarts.changes r ∙ restarts.synced

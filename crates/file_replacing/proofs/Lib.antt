@@ -7,6 +7,8 @@ pub mod Turn
 pub mod Splits
 pub mod Locks
 pub mod LockCalls
+pub mod Owning
+pub mod Processes
 pub mod OnDisk
 pub mod KeepCalls
 pub mod Whole

@@ -1,5 +1,5 @@
 -- Calls on a lock, one after another.
-use Rattle.std.proofs.Common.{◌≡◌, ◌≢◌, ℕ, Bool, true, List, [], ◌∷◌, ◌++◌, refl, sym, ◌∙◌, ap, append_assoc}
+use Rattle.std.proofs.Common.{◌≡◌, ◌≢◌, ℕ, Bool, true, List, [], ◌∷◌, ◌++◌, Some, refl, sym, ◌∙◌, ap, append_assoc}
 use Rattle.file_replacing.specs.Event.{Event, Opened, Locked, Compared}
 use Rattle.file_replacing.specs.Safe.{TakesLock}
 use Rattle.file_replacing.specs.Locking.{IsLocking, AllLocking, OnlyLocks}
@@ -23,13 +23,14 @@ module _ (lock : List ℕ) where
   joined before mid after (earlier, was, all) (calls, is, rest) =
       (calls ++ earlier, is ∙ ap (λ (h : List Event). calls ++ h) was ∙ sym (append_assoc calls earlier before), all_and calls earlier rest all)
 
-  -- opened, locked and still of its name
-  pub taken : (name : List ℕ) → lock ≢ name → (got same : Bool) (h0 h1 h2 h3 : List Event) → h1 ≡ Opened lock true ∷ h0 → h2 ≡ Locked got ∷ h1 → h3 ≡ Compared lock same ∷ h2
-      → got ≡ true → same ≡ true → TakesLock lock name h0 h3
-  taken name apart got same h0 h1 h2 h3 first second third is_got is_same =
+  -- made, locked and still of its name
+  pub taken : (name : List ℕ) → lock ≢ name → (made got same : Bool) (h0 h1 h2 h3 : List Event) → h1 ≡ Opened lock (Some made) ∷ h0 → h2 ≡ Locked got ∷ h1 → h3 ≡ Compared lock same ∷ h2
+      → made ≡ true → got ≡ true → same ≡ true → TakesLock lock name h0 h3
+  taken name apart made got same h0 h1 h2 h3 first second third is_made is_got is_same =
       takes_lock lock name apart h0 h3 (
       third
       ∙ ap (λ (h : List Event). Compared lock same ∷ h) (second ∙ ap (λ (h : List Event). Locked got ∷ h) first)
-      ∙ ap (λ (b : Bool). Compared lock b ∷ Locked got ∷ Opened lock true ∷ h0) is_same
-      ∙ ap (λ (b : Bool). Compared lock true ∷ Locked b ∷ Opened lock true ∷ h0) is_got
+      ∙ ap (λ (b : Bool). Compared lock b ∷ Locked got ∷ Opened lock (Some made) ∷ h0) is_same
+      ∙ ap (λ (b : Bool). Compared lock true ∷ Locked b ∷ Opened lock (Some made) ∷ h0) is_got
+      ∙ ap (λ (b : Bool). Compared lock true ∷ Locked true ∷ Opened lock (Some b) ∷ h0) is_made
       )

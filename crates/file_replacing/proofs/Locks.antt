@@ -1,12 +1,12 @@
 -- The calls that have a lock.
-use Rattle.std.proofs.Common.{◌≡◌, ◌≢◌, ◌⊎◌, inl, inr, ⊎_elim, ℕ, true, false, List, [], ◌∷◌, ◌++◌, Option, Some, None, refl, sym, ◌∙◌, ap, subst, append_assoc}
+use Rattle.std.proofs.Common.{◌≡◌, ◌≢◌, ◌⊎◌, inl, inr, ⊎_elim, ℕ, true, false, List, [], ◌∷◌, ◌++◌, Option, Some, None, sym, ◌∙◌, ap, subst, append_assoc}
 use Rattle.std.specs.List.{Contains}
 use Rattle.file_replacing.specs.Event.{Event, Opened, Locked, Compared, Removed, Settled, SyncedFile, Read, unanswered}
-use Rattle.file_replacing.specs.Disk.{Disk, MayLeave, IsApart, stored, Takes}
-use Rattle.file_replacing.specs.Safe.{Others, Run, Moment, IsHeld, IsKept, IsOurs, AllOurs, OnlyOurs, StaysKept, TakesLock, StaysOld}
+use Rattle.file_replacing.specs.Disk.{Disk, MayLeave, IsApart, Takes}
+use Rattle.file_replacing.specs.Safe.{Others, Run, Moment, IsHeld, IsOurs, AllOurs, OnlyOurs, StaysKept, TakesLock, StaysOld}
 use Rattle.file_replacing.specs.Locking.{IsLocking, AllLocking, OnlyLocks, IsKeeping, AllKeeping, OnlyKeeps}
 use Rattle.file_replacing.proofs.Lemmas.{leaves_led, leaves_settled, leaves_stored}
-use Rattle.file_replacing.proofs.Kept.{kept_run, kept_moment}
+use Rattle.file_replacing.proofs.Kept.{kept_call, kept_made, kept_moment}
 use Rattle.file_replacing.proofs.Splits.{run_split}
 
 module _ (lock name : List ℕ) where
@@ -14,7 +14,7 @@ module _ (lock name : List ℕ) where
   keeping : (call : Event) → IsLocking lock call → IsKeeping lock call
   keeping (Settled ok) is = tt
   keeping (SyncedFile n ok) is = tt
-  keeping (Opened n ok) is = is
+  keeping (Opened n made) is = is
   keeping (Locked got) is = is
   keeping (Compared n same) is = is
   keeping (Removed n ok) is = is
@@ -26,7 +26,7 @@ module _ (lock name : List ℕ) where
   all_keeping (call ∷ calls) all = (keeping call all.0, all_keeping calls all.1)
 
   ours : (call : Event) → IsKeeping lock call → IsOurs lock name call
-  ours (Opened n ok) is = is
+  ours (Opened n made) is = is
   ours (Locked got) is = tt
   ours (Compared n same) is = tt
   ours (Removed n ok) is = is
@@ -44,11 +44,11 @@ module _ (lock name : List ℕ) where
     other e = apart (sym e)
 
     pub leaves : (call : Event) (v w : Disk) → IsKeeping lock call → Takes call v w → (c : Option (List ℕ)) → MayLeave w name c → MayLeave v name c
-    leaves (Opened n true) v w is (inl (f, at, to)) c left = subst (λ (x : Disk). MayLeave x name c) to left
-    leaves (Opened n true) v w is (inr (f, none, fresh, to)) c left =
+    leaves (Opened n (Some false)) v w is (f, at, to) c left = subst (λ (x : Disk). MayLeave x name c) to left
+    leaves (Opened n (Some true)) v w is (f, none, fresh, to) c left =
         leaves_led v n name (Some f) c (λ e. other (e ∙ is)) (subst (λ (x : Disk). MayLeave x name c) to left)
-    leaves (Opened n false) v w is (inl to) c left = subst (λ (x : Disk). MayLeave x name c) to left
-    leaves (Opened n false) v w is (inr (f, none, fresh, to)) c left =
+    leaves (Opened n None) v w is (inl to) c left = subst (λ (x : Disk). MayLeave x name c) to left
+    leaves (Opened n None) v w is (inr (f, none, fresh, to)) c left =
         leaves_led v n name (Some f) c (λ e. other (e ∙ is)) (subst (λ (x : Disk). MayLeave x name c) to left)
     leaves (Locked true) v w is to c left = subst (λ (x : Disk). MayLeave x name c) to left
     leaves (Locked false) v w is to c left = subst (λ (x : Disk). MayLeave x name c) to left
@@ -68,7 +68,7 @@ module _ (lock name : List ℕ) where
     leaves call v w is to c left = absurd is
 
     locking_begun : (call : Event) → IsKeeping lock call → IsKeeping lock (unanswered call)
-    locking_begun (Opened n ok) is = is
+    locking_begun (Opened n made) is = is
     locking_begun (Locked got) is = tt
     locking_begun (Compared n same) is = tt
     locking_begun (Removed n ok) is = is
@@ -101,17 +101,16 @@ module _ (lock name : List ℕ) where
         apart = subst (λ (x : ℕ). IsApart e name x) (sym o.mine) (alone.apart held.apart);
       }
 
-      opened_place : (v w : Disk) → Takes (Opened lock true) v w → w.place ≡ 0
-      opened_place v w (inl (f, at, is)) = ap (λ (x : Disk). x.place) is
-      opened_place v w (inr (f, none, fresh, is)) = ap (λ (x : Disk). x.place) is
+      opened_place : (v w : Disk) → Takes (Opened lock (Some true)) v w → w.place ≡ 0
+      opened_place v w (f, none, fresh, is) = ap (λ (x : Disk). x.place) is
 
-      had : (d e : Disk) → IsKept lock name d → Run lock name laters (Compared lock true ∷ Locked true ∷ Opened lock true ∷ []) d e → IsHeld lock name e
-      had d e kept (v2, w2, (v1, w1, (v0, w0, o0, t0, o1), t1, o2), t2, o3) =
-          let kept2 = kept_run lock name apart laters (Locked true ∷ Opened lock true ∷ []) d v2 (tt, (refl, tt)) kept (v1, w1, (v0, w0, o0, t0, o1), t1, o2) in
+      had : (d e : Disk) → Run lock name laters (Compared lock true ∷ Locked true ∷ Opened lock (Some true) ∷ []) d e → IsHeld lock name e
+      had d e (v2, w2, (v1, w1, (v0, w0, o0, t0, o1), t1, o2), t2, o3) =
+          let kept2 = o2.kept (kept_call lock name apart (Locked true) v1 w1 tt t1 (o1.kept (kept_made lock name apart v0 w0 t0))) in
           let here : IsHeld lock name v2 = record {
             has = record { locked = o2.locked ∙ ap (λ (x : Disk). x.is_locked) t1; named = t2.0 };
             place = o2.place ∙ ap (λ (x : Disk). x.place) t1 ∙ o1.place ∙ opened_place v0 w0 t0;
-            apart = kept2.now v2.mine t2.0;
+            apart = kept2 v2.mine t2.0;
           } in
           held_on w2 e o3 (subst (λ (x : Disk). IsHeld lock name x) (sym t2.1) here)
 
@@ -131,15 +130,16 @@ module _ (lock name : List ℕ) where
     pub stays_kept : (before after : List Event) → OnlyLocks lock before after → StaysKept lock name before after
     stays_kept before after (calls, is, all) = keeps_kept before after (calls, is, all_keeping calls all)
 
-    pub takes_lock : (before after : List Event) → after ≡ Compared lock true ∷ Locked true ∷ Opened lock true ∷ before → TakesLock lock name before after
-    takes_lock before after is = (Compared lock true ∷ Locked true ∷ Opened lock true ∷ [], is, λ laters d e kept run. had laters d e kept run)
+    -- a file that this process made, locked, and of the lock's name still
+    pub takes_lock : (before after : List Event) → after ≡ Compared lock true ∷ Locked true ∷ Opened lock (Some true) ∷ before → TakesLock lock name before after
+    takes_lock before after is = (Compared lock true ∷ Locked true ∷ Opened lock (Some true) ∷ [], is, λ laters d e run. had laters d e run)
 
     -- the lock is had at last
     pub takes_at_last : (before mid after : List Event) → OnlyLocks lock before mid → TakesLock lock name mid after → TakesLock lock name before after
     takes_at_last before mid after (earlier, was, all) (calls, is, takes) = (
       calls ++ earlier,
       is ∙ ap (λ (h : List Event). calls ++ h) was ∙ sym (append_assoc calls earlier before),
-      λ laters d e kept run.
+      λ laters d e run.
           let parts = run_split lock name laters calls earlier d e run in
-          takes laters parts.0 e (kept_run lock name apart laters earlier d parts.0 (all_ours earlier (all_keeping earlier all)) kept parts.1) parts.2,
+          takes laters parts.0 e parts.2,
     )

@@ -21,7 +21,7 @@ module _ (lock name new : List ℕ) where
   compared_bad false = refl
 
   stays_bad : (call : Event) → next lock name new call Bad ≡ Bad
-  stays_bad (Opened n ok) = refl
+  stays_bad (Opened n made) = refl
   stays_bad (Locked got) = refl
   stays_bad (Compared n same) = compared_bad (same && bytes_eq n lock)
   stays_bad (Emptied true) = refl
@@ -119,7 +119,7 @@ module _ (lock name new : List ℕ) (laters : List (Option (List ℕ))) where
   others_leave (Ready b) d v u o m = let alone = o.held m.calm.has in record {
     calm = calm_on d v u o m.calm;
     holds = ap u.contents o.mine ∙ alone.bytes ∙ m.holds;
-    on_disk = ap u.is_synced o.mine ∙ alone.synced ∙ m.on_disk;
+    on_disk = ap u.is_synced o.mine ∙ alone.synced m.on_disk;
   }
   others_leave InPlace d v u o m = record {
     any = any_on d v u o m.any;
@@ -281,7 +281,7 @@ module _ (lock name new : List ℕ) (laters : List (Option (List ℕ))) where
   -- names that differ
   module _ (apart : lock ≢ name) where
     step : (call : Event) (p : Phase) (d v w : Disk) → Means p d v → Takes call v w → Means (next lock name new call p) d w
-    step (Opened n ok) p d v w m t = tt
+    step (Opened n made) p d v w m t = tt
     step (Locked got) p d v w m t = tt
     step (Compared n true) p d v w m t = subst (λ (x : Disk). Means (compared (true && bytes_eq n lock) p) d x) (sym t.1) (compared_same (true && bytes_eq n lock) p d v m)
     step (Compared n false) p d v w m t = subst (λ (x : Disk). Means (compared (false && bytes_eq n lock) p) d x) (sym t) (compared_same (false && bytes_eq n lock) p d v m)
@@ -345,7 +345,7 @@ module _ (lock name new : List ℕ) (laters : List (Option (List ℕ))) where
     fine_settled false p fine = fine
 
     fine_begun : (call : Event) (p : Phase) → next lock name new call p ≢ Bad → next lock name new (unanswered call) p ≢ Bad
-    fine_begun (Opened n ok) p fine = fine
+    fine_begun (Opened n made) p fine = fine
     fine_begun (Locked got) p fine = fine
     fine_begun (Compared n same) p fine = was_fine lock name new (Compared n same) p fine
     fine_begun (Emptied ok) p fine = fine_emptied ok p fine

@@ -29,7 +29,7 @@ module _ (lock name new : List ℕ) where
   ours_renamed_from from to ok p fine = absurd (fine refl)
 
   ours_next : (call : Event) (p : Phase) → next lock name new call p ≢ Bad → IsOurs lock name call
-  ours_next (Opened n ok) p fine = absurd (fine refl)
+  ours_next (Opened n made) p fine = absurd (fine refl)
   ours_next (Locked got) p fine = tt
   ours_next (Compared n same) p fine = tt
   ours_next (Emptied ok) p fine = tt

@@ -34,10 +34,10 @@ throughout lock name new before held after (earlier, was, takes) (earlier_too, w
     let same : earlier_too ≡ earlier = append_cancel_right earlier_too earlier before (sym was_too ∙ was) in (
       calls ++ earlier,
       both calls earlier before held after is was,
-      λ laters d e kept moment c left.
+      λ laters d e moment c left.
           at_moment lock name new earlier calls laters d e c
           (λ v m old. stays laters d v (subst (λ (h : List Event). Moment lock name laters h d v) (sym same) m) c old)
-          (λ v run m. either laters v e (takes laters d v kept run) m c left)
+          (λ v run m. either laters v e (takes laters d v run) m c left)
           left
           (moment_split lock name laters calls earlier d e moment),
     )

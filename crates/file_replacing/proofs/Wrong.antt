@@ -1,12 +1,11 @@
 -- The statements are false of the histories of wrong bodies.
-use Rattle.std.proofs.Common.{◌≡◌, ◌≢◌, ◌⊎◌, inl, inr, ⊎_elim, ℕ, ◌+◌, true, false, ◌==◌, if◌then◌else◌, List, [], ◌∷◌, length, take, Option, Some, None, refl, sym, ◌∙◌, ap, subst, arith}
+use Rattle.std.proofs.Common.{◌≡◌, ◌≢◌, ◌⊎◌, inl, inr, ℕ, ◌+◌, true, false, ◌==◌, if◌then◌else◌, List, [], ◌∷◌, length, take, Option, Some, None, refl, sym, ◌∙◌, ap, subst, arith}
 use Rattle.std.specs.List.{Contains}
 use Rattle.std.proofs.lemmas.Bool.{cond-true, cond-false}
-use Rattle.file_replacing.specs.Event.{Event, Opened, Emptied, Wrote, Synced, Renamed, Removed}
-use Rattle.file_replacing.specs.Disk.{Disk, Names, MayName, MayHold, MayLeave, MayShow, led, moved, filled, opened, overlaid}
+use Rattle.file_replacing.specs.Event.{Event, Opened, Locked, Compared, Emptied, Wrote, Synced, Renamed, Removed}
+use Rattle.file_replacing.specs.Disk.{Disk, Names, MayName, MayHold, MayLeave, MayShow, lead, led, moved, filled, opened, overlaid}
 use Rattle.file_replacing.specs.Safe.{Others, Run, Moment, IsHeld}
 use Rattle.file_replacing.proofs.Lemmas.{same_bytes, other_name, led_names, has_along}
-use Rattle.file_replacing.proofs.Kept.{led_both}
 use Rattle.file_replacing.proofs.Alone.{alone}
 use Rattle.file_replacing.proofs.Witness.{first, first_names, at_name, named, one, held_first}
 
@@ -59,15 +58,15 @@ module _ (lock name new : List ℕ) (apart : lock ≢ name) where
       refused (safe [] a d held run (Some (7 ∷ new)) left)
 
   -- the file emptied in place
-  pub written_in_place : IsSafe lock name new (Emptied true ∷ Opened name true ∷ []) → ⊥
+  pub written_in_place : IsSafe lock name new (Emptied true ∷ Opened name (Some false) ∷ []) → ⊥
   written_in_place safe =
       let held = held_first lock name apart in
       let o = alone lock name [] in
       let a : Disk = first lock name apart in
       let b : Disk = opened a 0 in
       let c : Disk = filled b [] 0 true in
-      let run : Moment lock name [] (Emptied true ∷ Opened name true ∷ []) a c =
-      inl (b, c, (a, b, o a, inl (0, at_name lock name apart, refl), o b), refl, o c) in
+      let run : Moment lock name [] (Emptied true ∷ Opened name (Some false) ∷ []) a c =
+      inl (b, c, (a, b, o a, (0, at_name lock name apart, refl), o b), refl, o c) in
       let left : MayLeave c name (Some (7 ∷ new)) = (c.names, inl refl, (0, at_name lock name apart, inr refl)) in
       refused (safe [] a c held run (Some (7 ∷ new)) left)
 
@@ -106,24 +105,6 @@ module _ (lock name new : List ℕ) (apart : lock ≢ name) where
       let y = led_names (first lock name apart) lock name None x.0 other x.1 in
       x.2 ∙ y.2 ∙ ap (λ (n : Names). n name) (one lock name apart y.0 y.1) ∙ at_name lock name apart
 
-  lock_not_zero : (names : Names) → MayName theirs names → names lock ≢ Some 0
-  lock_not_zero names may at =
-      let x = led_both gone lock name (Some 2) names other may in
-      let y = led_both (first lock name apart) lock name None x.0 other x.1 in
-      ⊎_elim
-      (λ same. ⊎_elim
-      (λ first_too. some_other 1 0 (omega arith) (sym (named lock name apart) ∙ sym (ap (λ (n : Names). n lock) (one lock name apart y.0 y.1)) ∙ sym first_too ∙ sym same ∙ at))
-      (λ none. none_other 0 (sym none ∙ sym same ∙ at))
-      y.3)
-      (λ two. some_other 2 0 (omega arith) (sym two ∙ at))
-      x.3
-    where
-      some_other : (a b : ℕ) → (a ≡ b → ⊥) → Some a ≡ Some b → ⊥
-      some_other a b ne e = ne (let same : a ≡ b = cc in same)
-
-      none_other : (b : ℕ) → None ≡ Some b → ⊥
-      none_other b e = cc
-
   zero_not : (f : ℕ) → Some 0 ≡ Some f → f ≡ 0
   zero_not f e = let same : f ≡ 0 = cc in same
 
@@ -136,15 +117,10 @@ module _ (lock name new : List ℕ) (apart : lock ≢ name) where
     place = refl;
     clean = refl;
     locked = refl;
-    kept = λ k. record {
-      now = λ f at names may here.
-          let f_is_two = two_is f (sym (cond-true _ (Some 2) _ (same_bytes lock)) ∙ at) in
-          let f_is_zero = zero_not f (sym (still names may) ∙ here) in
-          absurd (omega (arith, f_is_two, f_is_zero));
-      after = λ names may f at here.
-          let f_is_zero = zero_not f (sym (still names may) ∙ here) in
-          lock_not_zero names may (at ∙ ap (λ (x : ℕ). Some x) f_is_zero);
-    };
+    kept = λ k f at names may here.
+        let f_is_two = two_is f (sym (cond-true _ (Some 2) _ (same_bytes lock)) ∙ at) in
+        let f_is_zero = zero_not f (sym (still names may) ∙ here) in
+        absurd (omega (arith, f_is_two, f_is_zero));
     left = λ c l. inl (unchanged c l);
     shown = λ c l. inl (shows c l);
     held = λ has. absurd (none_some 1 (sym (cond-true _ None _ (same_bytes lock)) ∙ has.named));
@@ -178,3 +154,27 @@ module _ (lock name new : List ℕ) (apart : lock ≢ name) where
       inl (theirs, e, (a, gone, o a, refl, they_come), (2, cond-true _ (Some 2) _ (same_bytes lock), refl), o e) in
       let left : MayLeave e name (Some (7 ∷ new)) = (e.names, inl refl, (2, cond-true _ (Some 2) _ (same_bytes name), inr refl)) in
       refused (safe [] a e (held_first lock name apart) run (Some (7 ∷ new)) left)
+
+  -- A lock that was there is had: it may be a second name of the file.
+  unfoldable linked_names : Names
+  linked_names = lead lock (Some 0) (lead name (Some 0) (λ n. None))
+
+  at_lock : linked_names lock ≡ Some 0
+  unfolding linked_names
+  at_lock = cond-true _ (Some 0) _ (same_bytes lock)
+
+  at_file : linked_names name ≡ Some 0
+  unfolding linked_names
+  at_file = cond-false _ (Some 0) _ (other_name name lock other) ∙ cond-true _ (Some 0) _ (same_bytes name)
+
+  abbrev linked : Disk
+  linked = record (first lock name apart) { names = linked_names; synced = linked_names; mine = 0; is_locked = false }
+
+  pub lock_that_was_there_is_had : ((laters : List (Option (List ℕ))) (d e : Disk) → Run lock name laters (Compared lock true ∷ Locked true ∷ Opened lock (Some false) ∷ []) d e → IsHeld lock name e) → ⊥
+  lock_that_was_there_is_had takes =
+      let o = alone lock name [] in
+      let b : Disk = opened linked 0 in
+      let c : Disk = record b { is_locked = true } in
+      let run : Run lock name [] (Compared lock true ∷ Locked true ∷ Opened lock (Some false) ∷ []) linked c =
+      (c, c, (b, c, (linked, b, o linked, (0, at_lock, refl), o b), refl, o c), (at_lock, refl), o c) in
+      (takes [] linked c run).apart linked_names (inl refl) at_file

@@ -107,10 +107,10 @@ overlaid file place bytes = take place file ++ bytes ++ drop (place + length byt
 
 -- A call with its answer takes the disk d to e. One that failed may have been done, or a part of it, or none.
 abbrev pub Takes : Event → Disk → Disk → Type 0
-Takes (Opened name true) d e =
-    ((file : ℕ) × (d.names name ≡ Some file) × (e ≡ opened d file))
-    ⊎ ((file : ℕ) × (d.names name ≡ None) × IsFresh d file × (e ≡ opened (led d name (Some file)) file))
-Takes (Opened name false) d e =
+Takes (Opened name (Some true)) d e =
+    (file : ℕ) × (d.names name ≡ None) × IsFresh d file × (e ≡ opened (led d name (Some file)) file)
+Takes (Opened name (Some false)) d e = (file : ℕ) × (d.names name ≡ Some file) × (e ≡ opened d file)
+Takes (Opened name None) d e =
     (e ≡ d) ⊎ ((file : ℕ) × (d.names name ≡ None) × IsFresh d file × (e ≡ led d name (Some file)))
 Takes (Locked true) d e = e ≡ record d { is_locked = true }
 Takes (Locked false) d e = e ≡ d

@@ -4,7 +4,7 @@ use Rattle.file_replacing.specs.Event.{Event, Opened, Locked, Compared, Emptied,
 
 -- The call failed, or did not get the lock. A write that takes nothing has failed.
 abbrev pub Fails : Event → Type 0
-Fails (Opened name ok) = ok ≡ false
+Fails (Opened name made) = made ≡ None
 Fails (Locked got) = got ≡ false
 Fails (Compared name same) = ⊥
 Fails (Emptied ok) = ok ≡ false

@@ -4,6 +4,8 @@ pub mod Safe
 pub mod Phase
 pub mod Outcome
 pub mod Locking
+pub mod Owning
+pub mod Processes
 pub mod Failed
 pub mod Whole
 pub mod Note

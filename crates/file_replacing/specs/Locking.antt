@@ -4,7 +4,7 @@ use Rattle.file_replacing.specs.Event.{Event, Opened, Locked, Compared, Removed,
 
 -- A call opens, locks, compares or removes the lock's file alone, or reads a file.
 abbrev pub IsLocking : List ℕ → Event → Type 0
-IsLocking lock (Opened n ok) = n ≡ lock
+IsLocking lock (Opened n made) = n ≡ lock
 IsLocking lock (Locked got) = Unit {0}
 IsLocking lock (Compared n same) = Unit {0}
 IsLocking lock (Removed n ok) = n ≡ lock

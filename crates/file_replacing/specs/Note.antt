@@ -11,6 +11,11 @@ abbrev pub taken_of : Bool → ℕ → Option ℕ
 taken_of true n = Some n
 taken_of false n = None
 
+-- whether a file was made, where one was opened
+abbrev pub made_of : Bool → ℕ → Option Bool
+made_of true n = Some (n == 1)
+made_of false n = None
+
 -- what a read gave: nothing, no file, or these bytes
 abbrev pub answer_of : ℕ → List ℕ → Option (Option (List ℕ))
 answer_of n bytes = if n == 0 then None else if n == 1 then Some None else Some (Some bytes)
@@ -18,7 +23,7 @@ answer_of n bytes = if n == 0 then None else if n == 1 then Some None else Some 
 -- the call that such numbers and texts note
 abbrev pub event_from : ℕ → ℕ → ℕ → List ℕ → List ℕ → Event
 event_from kind ok n first second =
-    if kind == 0 then Opened first (ok == 1)
+    if kind == 0 then Opened first (made_of (ok == 1) n)
     else if kind == 1 then Locked (ok == 1)
     else if kind == 2 then Compared first (ok == 1)
     else if kind == 3 then Emptied (ok == 1)

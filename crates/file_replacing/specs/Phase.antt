@@ -78,7 +78,7 @@ compared same p = p
 
 -- after a call
 abbrev pub next : List ℕ → List ℕ → List ℕ → Event → Phase → Phase
-next lock name new (Opened n ok) p = Bad
+next lock name new (Opened n made) p = Bad
 next lock name new (Locked got) p = Bad
 next lock name new (Compared n same) p = compared (same && bytes_eq n lock) p
 next lock name new (Emptied ok) p = emptied ok p

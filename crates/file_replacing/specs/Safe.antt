@@ -1,7 +1,7 @@
 -- What a crash at any moment leaves, while other processes work.
-use Rattle.std.specs.Prelude.{◌≡◌, ◌≢◌, ◌⊎◌, ℕ, true, List, [], ◌∷◌, ◌++◌, Option, Some, None, Contains}
+use Rattle.std.specs.Prelude.{◌≡◌, ◌⊎◌, ℕ, true, List, [], ◌∷◌, ◌++◌, Option, Some, None, Contains}
 use Rattle.file_replacing.specs.Event.{Event, Opened, Renamed, Removed, unanswered}
-use Rattle.file_replacing.specs.Disk.{Disk, Names, MayName, MayHold, MayLeave, MayShow, Reads, IsApart, Takes}
+use Rattle.file_replacing.specs.Disk.{Disk, MayName, MayHold, MayLeave, MayShow, Reads, IsApart, Takes}
 
 -- this process has the lock of the file that has the lock's name
 pub record HasLock (lock : List ℕ) (d : Disk) : Type 0 where
@@ -12,17 +12,14 @@ pub record HasLock (lock : List ℕ) (d : Disk) : Type 0 where
 pub record LeavesAlone (lock name : List ℕ) (d e : Disk) : Type 0 where
   pub leads : e.names lock ≡ d.names lock
   pub bytes : e.contents d.mine ≡ d.contents d.mine
-  pub synced : e.is_synced d.mine ≡ d.is_synced d.mine
+  pub synced : d.is_synced d.mine ≡ true → e.is_synced d.mine ≡ true
   pub old : (c : Option (List ℕ)) → MayLeave e name c → MayLeave d name c
   pub reads : (c : Option (List ℕ)) → Reads e name c → Reads d name c
   pub apart : IsApart d name d.mine → IsApart e name d.mine
 
--- What each that keeps to the protocol leaves: no file is, nor is after a crash, both under the lock's name and under the file's.
-pub record IsKept (lock name : List ℕ) (d : Disk) : Type 0 where
-  -- the file under the lock's name now is one that no crash leaves under the file's
-  pub now : (file : ℕ) → d.names lock ≡ Some file → IsApart d name file
-  -- nor does one crash leave a file under both
-  pub after : (names : Names) → MayName d names → (file : ℕ) → names lock ≡ Some file → names name ≢ Some file
+-- What each that keeps to the protocol leaves so: the file under the lock's name is one that no crash leaves under the file's.
+abbrev pub IsKept : List ℕ → List ℕ → Disk → Type 0
+IsKept lock name d = (file : ℕ) → d.names lock ≡ Some file → IsApart d name file
 
 -- What others do between two calls. `laters` is what they put in the file's place, who have the lock after this process.
 pub record Others (lock name : List ℕ) (laters : List (Option (List ℕ))) (d e : Disk) : Type 0 where
@@ -76,11 +73,11 @@ IsOld lock name before after =
     × ((laters : List (Option (List ℕ))) (d e : Disk) → IsHeld lock name d → Run lock name laters calls d e
     → (c : Option (List ℕ)) → MayLeave e name c → MayLeave d name c ⊎ Contains laters c)
 
--- Such calls, from a disk that is kept, end with the lock, whatever others do meanwhile.
+-- Such calls, from whatever disk, end with the lock, whatever others do meanwhile.
 abbrev pub TakesLock : List ℕ → List ℕ → List Event → List Event → Type 0
 TakesLock lock name before after =
     (calls : List Event) × (after ≡ calls ++ before)
-    × ((laters : List (Option (List ℕ))) (d e : Disk) → IsKept lock name d → Run lock name laters calls d e → IsHeld lock name e)
+    × ((laters : List (Option (List ℕ))) (d e : Disk) → Run lock name laters calls d e → IsHeld lock name e)
 
 -- A crash at any moment between two histories leaves what it could leave before, or what others put there.
 abbrev pub StaysOld : List ℕ → List ℕ → List Event → List Event → Type 0
@@ -91,7 +88,7 @@ StaysOld lock name before after =
 
 -- A call opens, renames and removes the lock alone, and renames it to the file alone.
 abbrev pub IsOurs : List ℕ → List ℕ → Event → Type 0
-IsOurs lock name (Opened n ok) = n ≡ lock
+IsOurs lock name (Opened n made) = n ≡ lock
 IsOurs lock name (Renamed from to ok) = (from ≡ lock) × (to ≡ name)
 IsOurs lock name (Removed n ok) = n ≡ lock
 IsOurs lock name call = Unit {0}
@@ -105,7 +102,7 @@ AllOurs lock name (call ∷ calls) = IsOurs lock name call × AllOurs lock name 
 abbrev pub OnlyOurs : List ℕ → List ℕ → List Event → List Event → Type 0
 OnlyOurs lock name before after = (calls : List Event) × (after ≡ calls ++ before) × AllOurs lock name calls
 
--- At each moment the disk is kept, for the next command too, where it was before.
+-- At each moment the disk is kept, where it was before.
 abbrev pub StaysKept : List ℕ → List ℕ → List Event → List Event → Type 0
 StaysKept lock name before after =
     (calls : List Event) × (after ≡ calls ++ before)

@@ -2,14 +2,14 @@
 use Rattle.std.specs.Prelude.{◌≡◌, ◌⊎◌, ℕ, List, ◌++◌, Option, Some, Contains}
 use Rattle.file_replacing.specs.Event.{Event}
 use Rattle.file_replacing.specs.Disk.{Disk, MayLeave, MayShow, Reads}
-use Rattle.file_replacing.specs.Safe.{Run, Moment, IsHeld, IsKept, TakesLock, StaysOld, OldOrNew}
+use Rattle.file_replacing.specs.Safe.{Run, Moment, IsHeld, TakesLock, StaysOld, OldOrNew}
 
--- A crash at any moment between two histories, from a disk on which a command may begin, leaves what a crash could leave before, or
--- the new bytes, or what others put there.
+-- A crash at any moment between two histories, from whatever disk, leaves what a crash could leave before, or the new bytes, or what
+-- others put there.
 abbrev pub OldOrNewThroughout : List ℕ → List ℕ → List ℕ → List Event → List Event → Type 0
 OldOrNewThroughout lock name new before after =
     (calls : List Event) × (after ≡ calls ++ before)
-    × ((laters : List (Option (List ℕ))) (d e : Disk) → IsKept lock name d → Moment lock name laters calls d e
+    × ((laters : List (Option (List ℕ))) (d e : Disk) → Moment lock name laters calls d e
     → (c : Option (List ℕ)) → MayLeave e name c → MayLeave d name c ⊎ (c ≡ Some new) ⊎ Contains laters c)
 
 -- Taking the lock and then replacing the file is one such whole.

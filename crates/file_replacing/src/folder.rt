@@ -10,12 +10,11 @@ pub trait Folder {
     /// Each call so far with its answer, the newest first.
     ghost history: { Self → List Event };
 
-    /// Opens the regular file of a name, or makes it.
-    fn open(&mut self, name: &str) -> io::Result<()>
-        ensures { history self.new ≡ Opened name.now (is_ok result) ∷ history self.old };
-
-    /// Whether the call that opened the file made it.
-    fn is_new(&self) -> bool;
+    /// Opens the regular file of a name, or makes it, and says whether it made it.
+    fn open(&mut self, name: &str) -> io::Result<bool>
+        ensures { MatchResult result
+            (λ made. history self.new ≡ Opened name.now (Some made) ∷ history self.old)
+            (λ _. history self.new ≡ Opened name.now None ∷ history self.old) };
 
     /// Whether this process has the open file's lock from now on.
     fn try_lock(&mut self) -> io::Result<bool>

@@ -1,8 +1,9 @@
-//! How the lock of a file is had.
+//! How the lock of a file is taken.
 ghost use Rattle.std.specs.Prelude.{◌≡◌, ◌≢◌, List, ℕ, true, IfOk, OnOk, OnErr};
 ghost use Rattle.std.specs.String.{string_bytes};
 ghost use Rattle.file_replacing.specs.Safe.{TakesLock, StaysOld, StaysKept};
 ghost use Rattle.file_replacing.specs.Locking.{OnlyLocks};
+ghost use Rattle.file_replacing.specs.Owning.{OwnsAll, GetsLock};
 ghost use Rattle.file_replacing.specs.Failed.{HasFailed};
 
 use crate::{Folder, Place};
@@ -55,6 +56,9 @@ pub fn hold<R: Clock, F: Folder>(rt: &R, folder: &mut F, place: &Place) -> Resul
     // No name but the lock's is opened or removed, and the next command may begin on what a crash leaves.
     ensures locks { OnlyLocks (string_bytes place.now.lock) (F.history folder.old) (F.history folder.new) }
     ensures kept { StaysKept (string_bytes place.now.lock) (string_bytes place.now.name) (F.history folder.old) (F.history folder.new) }
+    // The lock is removed only by who has it, and once the answer is Ok this process does.
+    ensures own { OwnsAll (string_bytes place.now.lock) (F.history folder.old) (F.history folder.new) }
+    ensures gets { OnOk result (GetsLock (string_bytes place.now.lock) (F.history folder.old) (F.history folder.new)) }
 {
     lock_and_take_mode(rt, folder, place.lock(), place.name())
 }
@@ -69,6 +73,8 @@ fn lock_and_take_mode<R: Clock, F: Folder>(
     requires { lock.now ≢ name.now }
     ensures held { OnOk result (TakesLock lock.now name.now (F.history folder.old) (F.history folder.new)) }
     ensures locks { OnlyLocks lock.now (F.history folder.old) (F.history folder.new) }
+    ensures own { OwnsAll lock.now (F.history folder.old) (F.history folder.new) }
+    ensures gets { OnOk result (GetsLock lock.now (F.history folder.old) (F.history folder.new)) }
 {
     wait(rt, folder, lock)?;
     if folder.take_mode(name).is_ok() {
@@ -82,6 +88,8 @@ fn lock_and_take_mode<R: Clock, F: Folder>(
 fn wait<R: Clock, F: Folder>(rt: &R, folder: &mut F, lock: &str) -> Result<(), HoldError>
     ensures held { (name : List ℕ) → lock.now ≢ name → OnOk result (TakesLock lock.now name (F.history folder.old) (F.history folder.new)) }
     ensures locks { OnlyLocks lock.now (F.history folder.old) (F.history folder.new) }
+    ensures own { OwnsAll lock.now (F.history folder.old) (F.history folder.new) }
+    ensures gets { OnOk result (GetsLock lock.now (F.history folder.old) (F.history folder.new)) }
 {
     let began = Instant::now(rt);
     let mut pause = 1u64;
@@ -113,21 +121,23 @@ fn has_waited<R: Clock>(rt: &R, began: &io::Result<Instant>) -> bool {
 }
 
 /// Tries once to have a lock: makes it or opens it, locks it, and sees that its name is still its own. A lock that was there already is
-/// removed once it is locked, and is not had then: the next try makes a new one. The error is `AlreadyExists` where what has the name
+/// removed once it is locked, and is not taken then: the next try makes a new one. The error is `AlreadyExists` if what has the name
 /// can't be taken.
 pub fn try_hold<F: Folder>(folder: &mut F, lock: &str) -> io::Result<bool>
     ensures held { (name : List ℕ) → lock.now ≢ name → IfOk result (λ is_held. is_held ≡ true → TakesLock lock.now name (F.history folder.old) (F.history folder.new)) }
     ensures locks { OnlyLocks lock.now (F.history folder.old) (F.history folder.new) }
+    ensures own { OwnsAll lock.now (F.history folder.old) (F.history folder.new) }
+    ensures gets { IfOk result (λ is_held. is_held ≡ true → GetsLock lock.now (F.history folder.old) (F.history folder.new)) }
     ensures cause { OnErr result (HasFailed (F.history folder.old) (F.history folder.new)) }
 {
-    folder.open(lock)?;
+    let is_new = folder.open(lock)?;
     if !folder.try_lock()? {
         return Ok(false);
     }
     if !folder.is_named(lock) {
         return Ok(false);
     }
-    if folder.is_new() {
+    if is_new {
         return Ok(true);
     }
     match folder.remove(lock) {

@@ -4,13 +4,14 @@ ghost use Rattle.std.specs.String.{string_bytes};
 ghost use Rattle.file_replacing.specs.Event.{Settled, SyncedFile};
 ghost use Rattle.file_replacing.specs.Failed.{HasFailed};
 ghost use Rattle.file_replacing.specs.Locking.{OnlyKeeps};
+ghost use Rattle.file_replacing.specs.Owning.{OwnLock, Owns, GivesBack};
 ghost use Rattle.file_replacing.specs.Safe.{StaysOld, OnlyOurs, StaysKept};
 ghost use Rattle.file_replacing.specs.Whole.{StaysOnDisk};
 
 use crate::{Folder, Place};
 use std::io;
 
-/// Has a file on the disk as it is, whose lock is had, and gives the lock back. The file is synced, and then its folder. The error is
+/// Has a file on the disk as it is, whose lock the caller has, and gives the lock back. The file is synced, and then its folder. The error is
 /// that of the first call that failed: then a loss of power may leave something else.
 pub fn keep<F: Folder>(folder: &mut F, place: &Place) -> io::Result<()>
     // Once the answer is Ok a crash leaves what the file had when the lock was had.
@@ -21,6 +22,8 @@ pub fn keep<F: Folder>(folder: &mut F, place: &Place) -> io::Result<()>
     ensures keeps { OnlyKeeps (string_bytes place.now.lock) (F.history folder.old) (F.history folder.new) }
     ensures ours { OnlyOurs (string_bytes place.now.lock) (string_bytes place.now.name) (F.history folder.old) (F.history folder.new) }
     ensures kept { StaysKept (string_bytes place.now.lock) (string_bytes place.now.name) (F.history folder.old) (F.history folder.new) }
+    // The lock is given back at every end.
+    ensures own { GivesBack (string_bytes place.now.lock) (F.history folder.old) (F.history folder.new) }
     // An error has a call that failed.
     ensures cause { OnErr result (HasFailed (F.history folder.old) (F.history folder.new)) }
 {
@@ -33,6 +36,7 @@ pub fn keep<F: Folder>(folder: &mut F, place: &Place) -> io::Result<()>
 fn sync_both<F: Folder>(folder: &mut F, name: &str) -> io::Result<()>
     ensures synced { OnOk result (F.history folder.new ≡ Settled true ∷ SyncedFile name.now true ∷ F.history folder.old) }
     ensures keeps { (lock : List ℕ) → OnlyKeeps lock (F.history folder.old) (F.history folder.new) }
+    ensures own { (lock : List ℕ) → Owns lock (F.history folder.old) OwnLock (F.history folder.new) OwnLock }
     ensures cause { OnErr result (HasFailed (F.history folder.old) (F.history folder.new)) }
 {
     folder.sync_file(name)?;

@@ -17,7 +17,7 @@ mod watch;
 pub use folder::Folder;
 pub use holding::{HoldError, hold, try_hold};
 pub use keeping::keep;
-pub use laws::{holding_then_replacing, restarts};
+pub use laws::{holding_then_replacing, owners_leave_alone, restarts};
 pub use names::folder_of;
 pub use outcome::{ReplaceError, Replaced};
 pub use place::Place;

@@ -1,4 +1,4 @@
-//! Where a file and its lock are.
+//! The names of a file and of its lock.
 ghost use Rattle.std.specs.Prelude.{◌≡◌, ◌<◌, length};
 ghost use Rattle.std.specs.String.{string_bytes};
 
@@ -22,7 +22,7 @@ impl Place {
         Ok(Place { name, lock })
     }
 
-    /// The place of the file to which a name leads once its symbolic links are followed; of the name itself where there is no such file.
+    /// The place of the file to which a name leads once its symbolic links are followed; of the name itself if there is no such file.
     pub fn followed<R: Files + AllocGlobal>(rt: &R, name: &str) -> Result<Place, AllocError> {
         match fs::canonicalize(rt, name) {
             Ok(path) => Place::new(rt.alloc(), path.into_string()),

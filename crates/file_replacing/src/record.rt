@@ -55,14 +55,14 @@ impl Record {
         ensures { self.new.noted ≡ (_numbers.now, _first.now, _second.now) ∷ self.old.noted }
     {}
 
-    /// The file of a name was opened, or was not.
-    pub fn opened(&mut self, name: &str, ok: bool)
-        ensures { events_of self.new.noted ≡ Opened name.now ok ∷ events_of self.old.noted }
+    /// The file of a name was opened, and was made by that or was not; or none was opened.
+    pub fn opened(&mut self, name: &str, made: Option<bool>)
+        ensures { events_of self.new.noted ≡ Opened name.now made ∷ events_of self.old.noted }
     {
-        if ok {
-            self.note(&[OPENED, 1, 0], name.as_bytes(), &[]);
-        } else {
-            self.note(&[OPENED, 0, 0], name.as_bytes(), &[]);
+        match made {
+            Some(true) => self.note(&[OPENED, 1, 1], name.as_bytes(), &[]),
+            Some(false) => self.note(&[OPENED, 1, 0], name.as_bytes(), &[]),
+            None => self.note(&[OPENED, 0, 0], name.as_bytes(), &[]),
         }
     }
 

@@ -1,16 +1,17 @@
-//! How a file is replaced whole, once its lock is had.
+//! How a file is replaced whole, by who has its lock.
 ghost use Rattle.std.specs.Prelude.{◌≡◌, ◌≢◌, List, ℕ, [], OnOk, OnErr, IfOk, IfErr, IsErrOf};
 ghost use Rattle.std.specs.String.{string_bytes};
 ghost use Rattle.file_replacing.specs.Phase.{Holding, Filled, Ready, Gone, Goes, GoesBack, GoesInTurn};
 ghost use Rattle.file_replacing.specs.Outcome.{phase_of};
 ghost use Rattle.file_replacing.specs.Safe.{OldOrNew, IsNew, IsOld, IsInPlace, LeavesNoLock, OnlyOurs, StaysKept};
+ghost use Rattle.file_replacing.specs.Owning.{OwnLock, Owns, GivesBack};
 ghost use Rattle.file_replacing.specs.Failed.{HasFailed};
 
 use crate::outcome::{ReplaceError, Replaced};
 use crate::{Folder, Place};
 use std::io;
 
-/// Puts these bytes in the place of a file whose lock is had.
+/// Puts these bytes in the place of a file whose lock the caller has.
 pub fn replace<F: Folder>(
     folder: &mut F,
     place: &Place,
@@ -30,6 +31,8 @@ pub fn replace<F: Folder>(
     // No other name is opened, renamed or removed, and at each moment the next command may begin on what a crash leaves.
     ensures ours { OnlyOurs (string_bytes place.now.lock) (string_bytes place.now.name) (F.history folder.old) (F.history folder.new) }
     ensures kept { StaysKept (string_bytes place.now.lock) (string_bytes place.now.name) (F.history folder.old) (F.history folder.new) }
+    // The lock is written, renamed and removed only while it is had, and it is given back at every end.
+    ensures own { GivesBack (string_bytes place.now.lock) (F.history folder.old) (F.history folder.new) }
 {
     exchange(folder, place.lock(), place.name(), bytes)
 }
@@ -46,6 +49,7 @@ fn exchange<F: Folder>(
     ensures ok { IfOk result (λ how. Goes lock.now name.now bytes.now (F.history folder.old) Holding (F.history folder.new) (phase_of how)) }
     ensures no_lock { OnOk result (LeavesNoLock lock.now (F.history folder.old) (F.history folder.new)) }
     ensures unchanged { IsErrOf result ReplaceError.Unchanged → Goes lock.now name.now bytes.now (F.history folder.old) Holding (F.history folder.new) Gone }
+    ensures own { GivesBack lock.now (F.history folder.old) (F.history folder.new) }
     ensures cause { OnErr result (HasFailed (F.history folder.old) (F.history folder.new)) }
 {
     match fill(folder, lock, name, bytes) {
@@ -57,10 +61,11 @@ fn exchange<F: Folder>(
     }
 }
 
-/// Writes the bytes to the lock's file, and has them on the disk. The folder is opened first: where that fails, nothing was done.
+/// Writes the bytes to the lock's file, and has them on the disk. The folder is opened first: if that fails, nothing was done.
 fn fill<F: Folder>(folder: &mut F, lock: &str, name: &str, bytes: &[u8]) -> io::Result<()>
     ensures ok { OnOk result (Goes lock.now name.now bytes.now (F.history folder.old) Holding (F.history folder.new) (Ready bytes.now)) }
     ensures err { OnErr result (GoesBack lock.now name.now bytes.now (F.history folder.old) Holding (F.history folder.new)) }
+    ensures own { Owns lock.now (F.history folder.old) OwnLock (F.history folder.new) OwnLock }
     ensures cause { OnErr result (HasFailed (F.history folder.old) (F.history folder.new)) }
 {
     folder.open_folder(name)?;
@@ -73,6 +78,7 @@ fn fill<F: Folder>(folder: &mut F, lock: &str, name: &str, bytes: &[u8]) -> io::
 fn write_all<F: Folder>(folder: &mut F, lock: &str, name: &str, bytes: &[u8]) -> io::Result<()>
     ensures ok { OnOk result (Goes lock.now name.now bytes.now (F.history folder.old) (Filled []) (F.history folder.new) (Filled bytes.now)) }
     ensures err { OnErr result (GoesBack lock.now name.now bytes.now (F.history folder.old) (Filled []) (F.history folder.new)) }
+    ensures own { Owns lock.now (F.history folder.old) OwnLock (F.history folder.new) OwnLock }
     ensures cause { OnErr result (HasFailed (F.history folder.old) (F.history folder.new)) }
 {
     let mut done = 0;
@@ -98,6 +104,7 @@ fn put<F: Folder>(
     ensures no_lock { OnOk result (LeavesNoLock lock.now (F.history folder.old) (F.history folder.new)) }
     ensures err { OnErr result (GoesInTurn lock.now name.now bytes.now (F.history folder.old) (Ready bytes.now) (F.history folder.new)) }
     ensures unsure { IfErr result (λ e. e ≡ ReplaceError.Unsure) }
+    ensures own { GivesBack lock.now (F.history folder.old) (F.history folder.new) }
     ensures cause { OnErr result (HasFailed (F.history folder.old) (F.history folder.new)) }
 {
     match folder.rename(lock, name) {

@@ -17,7 +17,6 @@ pub struct SystemFolder<'r, R: Files<File = File>, W: ReadWatch + Drop> {
     rt: &'r R,
     watch: W,
     file: Option<File>,
-    is_new: bool,
     folder: Option<File>,
     calls: Record,
 }
@@ -40,7 +39,6 @@ impl<'r, R: Files<File = File>, W: ReadWatch + Drop> SystemFolder<'r, R, W> {
             rt,
             watch,
             file: None,
-            is_new: false,
             folder: None,
             calls: Record::new(),
         }
@@ -68,7 +66,7 @@ fn made_or_opened<R: Files<File = File>>(rt: &R, name: &str) -> io::Result<(File
     }
 }
 
-/// Opens a file that is there already. The error is `Interrupted` where it is gone meanwhile, and else `AlreadyExists`.
+/// Opens a file that is there already. The error is `Interrupted` if it is gone meanwhile, and else `AlreadyExists`.
 fn left<R: Files<File = File>>(rt: &R, name: &str) -> io::Result<File> {
     match fs::symlink_metadata(rt, name) {
         Ok(found) if found.is_file() => {}
@@ -125,23 +123,18 @@ fn read_whole<R: Files<File = File>, W: ReadWatch>(
 impl<'r, R: Files<File = File>, W: ReadWatch + Drop> Folder for SystemFolder<'r, R, W> {
     ghost history = { λ folder. events_of folder.calls.noted };
 
-    fn open(&mut self, name: &str) -> io::Result<()> {
+    fn open(&mut self, name: &str) -> io::Result<bool> {
         match made_or_opened(self.rt, name) {
             Ok((file, is_new)) => {
                 self.file = Some(file);
-                self.is_new = is_new;
-                self.calls.opened(name, true);
-                Ok(())
+                self.calls.opened(name, Some(is_new));
+                Ok(is_new)
             }
             Err(error) => {
-                self.calls.opened(name, false);
+                self.calls.opened(name, None);
                 Err(error)
             }
         }
-    }
-
-    fn is_new(&self) -> bool {
-        self.is_new
     }
 
     fn try_lock(&mut self) -> io::Result<bool> {

@@ -137,4 +137,4 @@ fair = record { order = record { itself = λ a. refl; along = λ c b a x y. refl
 
 -- so these bytes are safe, by the laws
 pub put_safe : IsSafe parts w6.disk bytes
-put_safe = folder_history_laws.put parts events w0 w6 puts fair bytes (inl (0, inl refl))
+put_safe = folder_history_laws.put parts events w0 w6 puts fair bytes (inl (0, inl (inl refl)))

@@ -3,14 +3,22 @@ use Rattle.std.proofs.Common.{true, false, ◌≡◌, ◌≢◌, ◌⊎◌, inl,
 use Rattle.folder_history.specs.Disk.{Among, Disk, MayLead, Settles}
 use Rattle.folder_history.specs.Call.{Call, Made, Wrote, Synced, Linked, Removed, Settled, Locked, Unlocked, Began, Listed, Read, Exclusive, Shared, Done, Taken, Failed, unanswered}
 use Rattle.folder_history.specs.Parts.{Parts, IsOrder, IsThere, IsHeld, IsSafe}
-use Rattle.folder_history.specs.Turn.{Stage, Placed, stage_of, HasRead, HasReadSince, HasReadAll, InTurn, AllInTurn, Unlisted, Gave, Listing, listing_of, listing_after}
+use Rattle.folder_history.specs.Turn.{Stage, Placed, Whole, stage_of, WasSynced, IsKept, HasRead, HasReadSince, HasReadAll, InTurn, AllInTurn, Unlisted, Gave, Listing, listing_of, listing_after}
 use Rattle.folder_history.specs.World.{World, Does}
 use Rattle.folder_history.specs.Run.{Event, By, Comes, Leaves, Ends, PowerLost, Calls, Run, FreeRun, KeepsTurn, AtSome, SinceLoss, BeforeListing, HasPut, IsQuiet}
 use Rattle.folder_history.specs.Laws.{IsFair, SafeIsHeld, SettledIsSafe, FolderHistoryLaws}
 use Rattle.folder_history.proofs.Disks.{on_disk_covered}
 use Rattle.folder_history.proofs.Basics.{numbers_same}
-use Rattle.folder_history.proofs.Means.{Means, ListMeans, GuardedMeans, GaveMeans, Sound}
+use Rattle.folder_history.proofs.Means.{Means, ListMeans, WholeMeans, GuardedMeans, GaveMeans, Sound}
 use Rattle.folder_history.proofs.Steps.{step, step_held, quiet_sound}
+
+settled_may : (d e : Disk) → Settles d e → (name : List ℕ) (entry : Option ℕ) → MayLead e name entry → entry ≡ d.names name
+settled_may d e settles name entry (inl is) = is ∙ settles.names name
+settled_may d e settles name entry (inr among) = absurd (subst (λ (x : List (Option ℕ)). Among entry x) (settles.earlier name) among)
+
+settled : SettledIsSafe
+settled parts d e settles b (part, file, at, holds, synced, covers) = λ names may.
+    (part, file, settled_may d e settles (parts.name_of part) (names (parts.name_of part)) (may (parts.name_of part)) ∙ at, settles.contents file ∙ holds, settles.synced file ∙ synced, covers)
 
 module _ (parts : Parts) (order : IsOrder parts) (Known : List ℕ → Type 0) (distinct : (a b : List ℕ) → Known a → Known b → parts.name_of a ≡ parts.name_of b → a ≡ b) where
   at_end : (P : World → Type 0) (events : List Event) (d e : World) (run : Run parts events d e) → P e → AtSome P parts events d e run
@@ -46,20 +54,110 @@ module _ (parts : Parts) (order : IsOrder parts) (Known : List ℕ → Type 0) (
       let there : (x : List ℕ) → IsThere parts v.disk x → Known x = λ x t. known x (inr (at_end (λ w. IsThere parts w.disk x) earlier d v run t)) in
       step_held parts order Known distinct event v e tt before there happens b (held_run earlier d v run quiet (λ x t. known x (inr t)) b at)
 
+  -- ---- what was kept
+
+  -- what a process has read and synced is held, and what it has kept is safe
+  record Keeps (p : ℕ) (w : World) (b : List ℕ) : Type 0 where
+    synced : WasSynced parts b (w.calls p) → IsHeld parts w.disk b
+    kept : IsKept parts b (w.calls p) → IsSafe parts w.disk b
+
+  keeps_none : (p : ℕ) (w : World) (b : List ℕ) → w.calls p ≡ [] → Keeps p w b
+  keeps_none p w b none = record {
+    synced = λ was. absurd (subst (λ (l : List Call). WasSynced parts b l) none was);
+    kept = λ is. absurd (subst (λ (l : List Call). IsKept parts b l) none is);
+  }
+
+  -- a process that has made no call since
+  keeps_same : (p : ℕ) (v e : World) (b : List ℕ) → e.calls p ≡ v.calls p → (IsHeld parts v.disk b → IsHeld parts e.disk b) → (IsSafe parts v.disk b → IsSafe parts e.disk b) → Keeps p v b → Keeps p e b
+  keeps_same p v e b same held safe keeps = record {
+    synced = λ was. held (keeps.synced (subst (λ (l : List Call). WasSynced parts b l) same was));
+    kept = λ is. safe (keeps.kept (subst (λ (l : List Call). IsKept parts b l) same is));
+  }
+
+  kept_before : (call : Call) (calls : List Call) (b : List ℕ) → IsKept parts b (call ∷ calls) → ((call ≡ Settled true) × WasSynced parts b calls) ⊎ IsKept parts b calls
+  kept_before (Settled true) calls b (inl was) = inl (refl, was)
+  kept_before (Settled true) calls b (inr is) = inr is
+  kept_before (Settled false) calls b is = inr is
+  kept_before (Made name ok) calls b is = inr is
+  kept_before (Wrote bytes ok) calls b is = inr is
+  kept_before (Synced ok) calls b is = inr is
+  kept_before (Linked from to answer) calls b is = inr is
+  kept_before (Removed name ok) calls b is = inr is
+  kept_before (Locked kind ok) calls b is = inr is
+  kept_before Unlocked calls b is = inr is
+  kept_before Began calls b is = inr is
+  kept_before (Listed answer) calls b is = inr is
+  kept_before (Read name answer) calls b is = inr is
+
+  settles_safe : (call : Call) (q : ℕ) (v e : World) (b : List ℕ) → call ≡ Settled true → Does q call v e → IsHeld parts v.disk b → IsSafe parts e.disk b
+  settles_safe call q v e b is does held = let d : Does q (Settled true) v e = subst (λ (c : Call). Does q c v e) is does in settled parts v.disk e.disk d.0 b held
+
+  -- a process that has made one call more
+  keeps_call : (q : ℕ) (call : Call) (v e : World) (b : List ℕ) → Sound parts Known e → Calls parts q call v e → (IsHeld parts v.disk b → IsHeld parts e.disk b) → (IsSafe parts v.disk b → IsSafe parts e.disk b) → Keeps q v b → Keeps q e b
+  keeps_call q call v e b sound happens held safe keeps = record {
+    synced = λ was. ⊎_elim
+        (λ whole.
+        let stage : stage_of parts (e.calls q) ≡ Whole b = ap (λ (l : List Call). stage_of parts l) happens.notes.own ∙ whole in
+        let m : WholeMeans parts Known e q (e.calls q) b = subst (λ (x : Stage). Means parts Known e q (e.calls q) x) stage (sound.means q) in
+        m.held)
+        (λ earlier. held (keeps.synced earlier))
+        (subst (λ (l : List Call). WasSynced parts b l) happens.notes.own was);
+    kept = λ is. ⊎_elim
+        (λ (settles : (call ≡ Settled true) × WasSynced parts b (v.calls q)). settles_safe call q v e b settles.0 happens.does (keeps.synced settles.1))
+        (λ earlier. safe (keeps.kept earlier))
+        (kept_before call (v.calls q) b (subst (λ (l : List Call). IsKept parts b l) happens.notes.own is));
+  }
+
+  keeps_by : (q p : ℕ) (call : Call) (v e : World) (b : List ℕ) → (q ≡ p) ⊎ (q ≢ p) → Sound parts Known e → Calls parts q call v e → (IsHeld parts v.disk b → IsHeld parts e.disk b) → (IsSafe parts v.disk b → IsSafe parts e.disk b) → Keeps p v b → Keeps p e b
+  keeps_by q p call v e b (inl is) sound happens held safe keeps =
+      subst (λ (x : ℕ). Keeps x e b) is (keeps_call q call v e b sound happens held safe (subst (λ (x : ℕ). Keeps x v b) (sym is) keeps))
+  keeps_by q p call v e b (inr other) sound happens held safe keeps = keeps_same p v e b (happens.notes.others p (λ is. other (sym is))) held safe keeps
+
+  keeps_run : (events : List Event) (d e : World) (run : Run parts events d e) → IsQuiet d
+      → ((b : List ℕ) → AtSome (λ w. IsThere parts w.disk b) parts events d e run → Known b)
+      → (p : ℕ) (b : List ℕ) → Keeps p e b
+  keeps_run [] d e run quiet known p b = keeps_none p e b (ap (λ (w : World). w.calls p) run ∙ quiet p)
+  keeps_run (By q call ∷ earlier) d e (v, run, happens) quiet known p b =
+      let before = sound_run earlier d v run quiet (λ x t. known x (inr t)) in
+      let there : (x : List ℕ) → IsThere parts v.disk x → Known x = λ x t. known x (inr (at_end (λ w. IsThere parts w.disk x) earlier d v run t)) in
+      let after = step parts order Known distinct (By q call) v e before there happens in
+      keeps_by q p call v e b (numbers_same q p) after.sound happens (step_held parts order Known distinct (By q call) v e tt before there happens b) (after.safe b)
+      (keeps_run earlier d v run quiet (λ x t. known x (inr t)) p b)
+  keeps_run (Comes name bytes ∷ earlier) d e (v, run, happens) quiet known p b =
+      let before = sound_run earlier d v run quiet (λ x t. known x (inr t)) in
+      let there : (x : List ℕ) → IsThere parts v.disk x → Known x = λ x t. known x (inr (at_end (λ w. IsThere parts w.disk x) earlier d v run t)) in
+      keeps_same p v e b (happens.calls p) (step_held parts order Known distinct (Comes name bytes) v e tt before there happens b) ((step parts order Known distinct (Comes name bytes) v e before there happens).safe b)
+      (keeps_run earlier d v run quiet (λ x t. known x (inr t)) p b)
+  keeps_run (Leaves name ∷ earlier) d e (v, run, happens) quiet known p b =
+      let before = sound_run earlier d v run quiet (λ x t. known x (inr t)) in
+      let there : (x : List ℕ) → IsThere parts v.disk x → Known x = λ x t. known x (inr (at_end (λ w. IsThere parts w.disk x) earlier d v run t)) in
+      keeps_same p v e b (happens.calls p) (step_held parts order Known distinct (Leaves name) v e tt before there happens b) ((step parts order Known distinct (Leaves name) v e before there happens).safe b)
+      (keeps_run earlier d v run quiet (λ x t. known x (inr t)) p b)
+  keeps_run (Ends q ∷ earlier) d e (v, run, happens) quiet known p b =
+      let before = sound_run earlier d v run quiet (λ x t. known x (inr t)) in
+      let there : (x : List ℕ) → IsThere parts v.disk x → Known x = λ x t. known x (inr (at_end (λ w. IsThere parts w.disk x) earlier d v run t)) in
+      ⊎_elim
+      (λ is. keeps_none p e b (ap e.calls is ∙ happens.own))
+      (λ other. keeps_same p v e b (happens.others p other) (step_held parts order Known distinct (Ends q) v e tt before there happens b) ((step parts order Known distinct (Ends q) v e before there happens).safe b)
+      (keeps_run earlier d v run quiet (λ x t. known x (inr t)) p b))
+      (numbers_same p q)
+  keeps_run (PowerLost ∷ earlier) d e (v, run, happens) quiet known p b = keeps_none p e b (happens.calls p)
+
   -- ---- what was put
 
-  -- what a process has put is safe
-  put_at : (w : World) → Sound parts Known w → (b : List ℕ) → HasPut parts b w → IsSafe parts w.disk b
-  put_at w sound b (process, inl is) = subst (λ (x : Stage). Means parts Known w process (w.calls process) x) is (sound.means process)
-  put_at w sound b (process, inr is) =
+  -- what a process has put or kept is safe
+  put_at : (w : World) → Sound parts Known w → (b : List ℕ) → ((p : ℕ) → Keeps p w b) → HasPut parts b w → IsSafe parts w.disk b
+  put_at w sound b keeps (process, inl (inl is)) = subst (λ (x : Stage). Means parts Known w process (w.calls process) x) is (sound.means process)
+  put_at w sound b keeps (process, inl (inr is)) =
       let m : GuardedMeans parts Known w (w.calls process) b = subst (λ (x : Stage). Means parts Known w process (w.calls process) x) is (sound.means process) in
       on_disk_covered parts order w.disk b m.on_disk
+  put_at w sound b keeps (process, inr kept) = (keeps process).kept kept
 
   put_run : (events : List Event) (d e : World) (run : Run parts events d e) → IsQuiet d
       → ((b : List ℕ) → AtSome (λ w. IsThere parts w.disk b) parts events d e run → Known b)
       → (b : List ℕ) → AtSome (HasPut parts b) parts events d e run → AtSome (λ w. IsSafe parts w.disk b) parts events d e run
-  put_run [] d e run quiet known b put = put_at e (sound_run [] d e run quiet known) b put
-  put_run (event ∷ earlier) d e run quiet known b (inl put) = inl (put_at e (sound_run (event ∷ earlier) d e run quiet known) b put)
+  put_run [] d e run quiet known b put = put_at e (sound_run [] d e run quiet known) b (λ p. keeps_run [] d e run quiet known p b) put
+  put_run (event ∷ earlier) d e run quiet known b (inl put) = inl (put_at e (sound_run (event ∷ earlier) d e run quiet known) b (λ p. keeps_run (event ∷ earlier) d e run quiet known p b) put)
   put_run (event ∷ earlier) d e (v, run, happens) quiet known b (inr at) = inr (put_run earlier d v run quiet (λ x t. known x (inr t)) b at)
 
   put_listing : (p : ℕ) (events : List Event) (d e : World) (run : Run parts events d e) → IsQuiet d
@@ -221,14 +319,6 @@ killed parts calls (Read name answer) turn = tt
 
 held : SafeIsHeld
 held parts d b safe = safe d.names (λ name. inl refl)
-
-settled_may : (d e : Disk) → Settles d e → (name : List ℕ) (entry : Option ℕ) → MayLead e name entry → entry ≡ d.names name
-settled_may d e settles name entry (inl is) = is ∙ settles.names name
-settled_may d e settles name entry (inr among) = absurd (subst (λ (x : List (Option ℕ)). Among entry x) (settles.earlier name) among)
-
-settled : SettledIsSafe
-settled parts d e settles b (part, file, at, holds, synced, covers) = λ names may.
-    (part, file, settled_may d e settles (parts.name_of part) (names (parts.name_of part)) (may (parts.name_of part)) ∙ at, settles.contents file ∙ holds, settles.synced file ∙ synced, covers)
 
 -- ---- runs of processes that keep to their clauses
 

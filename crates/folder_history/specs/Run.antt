@@ -3,7 +3,7 @@ use Rattle.std.specs.Prelude.{◌≡◌, ◌≢◌, ◌⊎◌, ℕ, List, [], �
 use Rattle.folder_history.specs.Call.{Call, Began}
 use Rattle.folder_history.specs.Disk.{Brings, Restarts}
 use Rattle.folder_history.specs.Parts.{Parts, IsNoPart, IsThere}
-use Rattle.folder_history.specs.Turn.{InTurn, AllInTurn, IsStored}
+use Rattle.folder_history.specs.Turn.{InTurn, AllInTurn, IsStored, IsKept}
 use Rattle.folder_history.specs.World.{World, IsFresh, IsFree, Stays, Removes, Notes, Does}
 
 -- what happens
@@ -105,9 +105,9 @@ AreDistinct parts events d e run =
     (a b : List ℕ) → AtSome (λ w. IsThere parts w.disk a) parts events d e run → AtSome (λ w. IsThere parts w.disk b) parts events d e run →
     parts.name_of a ≡ parts.name_of b → a ≡ b
 
--- a process has put these bytes, by its calls
+-- a process has put these bytes, by its calls, or has kept them
 abbrev pub HasPut : Parts → List ℕ → World → Type 0
-HasPut parts bytes w = (process : ℕ) × IsStored parts bytes (w.calls process)
+HasPut parts bytes w = (process : ℕ) × (IsStored parts bytes (w.calls process) ⊎ IsKept parts bytes (w.calls process))
 
 -- no process runs
 abbrev pub IsQuiet : World → Type 0

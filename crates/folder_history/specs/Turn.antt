@@ -81,6 +81,17 @@ stage_of parts (call ∷ earlier) = stage_after parts call (lock_of earlier) (st
 abbrev pub IsStored : Parts → List ℕ → List Call → Type 0
 IsStored parts bytes calls = (stage_of parts calls ≡ Stored bytes) ⊎ (stage_of parts calls ≡ Guarded bytes)
 
+-- A part with these bytes was read and synced, at some moment.
+abbrev pub WasSynced : Parts → List ℕ → List Call → Type 0
+WasSynced parts bytes [] = ⊥
+WasSynced parts bytes (call ∷ earlier) = (stage_of parts (call ∷ earlier) ≡ Whole bytes) ⊎ WasSynced parts bytes earlier
+
+-- And the folder was synced after that, whatever was done in between: the part is kept.
+abbrev pub IsKept : Parts → List ℕ → List Call → Type 0
+IsKept parts bytes [] = ⊥
+IsKept parts bytes (Settled true ∷ earlier) = WasSynced parts bytes earlier ⊎ IsKept parts bytes earlier
+IsKept parts bytes (call ∷ earlier) = IsKept parts bytes earlier
+
 -- a part with these bytes was read
 abbrev pub HasRead : Parts → List ℕ → List Call → Type 0
 HasRead parts bytes [] = ⊥

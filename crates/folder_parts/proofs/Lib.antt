@@ -5,6 +5,7 @@ pub mod PackedAway
 pub mod PackedSoFar
 pub mod PartOpens
 pub mod PartsBring
+pub mod PartsInTurn
 pub mod Removals
 pub mod Removed
 pub mod SummedSoFar

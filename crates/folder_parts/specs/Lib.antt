@@ -5,4 +5,5 @@ pub mod Heads
 pub mod Packing
 pub mod PartName
 pub mod Parts
+pub mod PartReads
 pub mod PartsPut

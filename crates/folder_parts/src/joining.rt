@@ -1,7 +1,8 @@
 //! The join of a folder's parts, taken one after another.
-ghost use Rattle.std.specs.Prelude.{◌≡◌, IfOk, Ok};
+ghost use Rattle.std.specs.Prelude.{◌≡◌, IfOk, IfErr, Ok};
 ghost use Rattle.table_model.specs.Outcome.{Gives};
 ghost use Rattle.column_file.specs.Files.{AreCanonicalOf};
+ghost use Rattle.folder_parts.specs.PartReads.{IsListed, is_refusal_of_part};
 ghost use Rattle.folder_parts.specs.Parts.{OpensPart, JoinsPart};
 
 use crate::fault::PartFault;
@@ -34,6 +35,7 @@ impl Model for Join {
 /// What a part of this name holds. Refused are a name of other bytes (`Damaged`), and then what [`open`](column_file::open) refuses.
 fn open_part(alloc: Global, name: &str, bytes: &[u8]) -> Result<Store, PartFault>
     ensures held { OpensPart (λ store. store.replica) result (record { name = name.now; bytes = bytes.now }) }
+    ensures listed { IfErr result (λ fault. IsListed is_refusal_of_part fault) }
     ensures segments { IfOk result (λ store. AreCanonicalOf store.replica.schema store.replica.state.batches store.segments) }
 {
     if !is_part(alloc, name, bytes)? {
@@ -49,7 +51,8 @@ impl Join {
     /// Refused are, in this order, a name of other bytes (`Damaged`), and what [`open`](column_file::open) refuses of the bytes;
     /// `Memory` may come in the place of any of them.
     pub fn new(alloc: Global, name: &str, bytes: &[u8]) -> Result<Join, PartFault>
-        ensures { OpensPart (λ join. join) result (record { name = name.now; bytes = bytes.now }) }
+        ensures opened { OpensPart (λ join. join) result (record { name = name.now; bytes = bytes.now }) }
+        ensures listed { IfErr result (λ fault. IsListed is_refusal_of_part fault) }
     {
         let store = open_part(alloc, name, bytes)?;
         let joined = Joined::new(alloc, store)?;
@@ -62,7 +65,8 @@ impl Join {
     /// `SchemaDiffers`; `Conflict` with the least name that has two lists of rows; `Full`; `Memory` may come in the place of any of
     /// them.
     pub fn with_part(self, alloc: Global, name: &str, bytes: &[u8]) -> Result<Join, PartFault>
-        ensures { JoinsPart (λ join. join) result self (record { name = name.now; bytes = bytes.now }) }
+        ensures joined { JoinsPart (λ join. join) result self (record { name = name.now; bytes = bytes.now }) }
+        ensures listed { IfErr result (λ fault. IsListed is_refusal_of_part fault) }
     {
         let other = open_part(alloc, name, bytes)?;
         let Join { joined } = self;

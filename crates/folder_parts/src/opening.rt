@@ -1,6 +1,7 @@
 //! Opening the parts of a folder as one store, and packing them into one.
-ghost use Rattle.std.specs.Prelude.{◌≡◌, List, IfOk};
+ghost use Rattle.std.specs.Prelude.{◌≡◌, ◌∷◌, List, IfOk};
 ghost use Rattle.column_file.specs.Files.{AreCanonicalOf};
+ghost use Rattle.folder_parts.specs.PartReads.{EndsPart, EndsOthers, EndsAll, EndsParts, is_refusal_of_parts, is_refusal_of_pack};
 ghost use Rattle.folder_parts.specs.Parts.{PartForm, IsPart, AreParts, OpensPart, OpensParts, JoinsPart, JoinsParts, PacksParts};
 
 use crate::fault::{PartFault, PartRefusal};
@@ -15,7 +16,8 @@ use table_model::Counted;
 
 /// The join of the first part, read to its end.
 fn open_first<R: Read>(alloc: Global, part: &mut Part<R>) -> Result<Join, PartFault>
-    ensures { (form : PartForm) → IsPart R.remaining part.old form → OpensPart (λ join. join) result form }
+    ensures opened { (form : PartForm) → IsPart R.remaining part.old form → OpensPart (λ join. join) result form }
+    ensures ends { EndsPart R.remaining result part.old part.new }
 {
     let bytes = part.read(alloc)?;
     Join::new(alloc, part.name(), bytes.as_slice())
@@ -23,7 +25,8 @@ fn open_first<R: Read>(alloc: Global, part: &mut Part<R>) -> Result<Join, PartFa
 
 /// The join with a further part, read to its end.
 fn join_part<R: Read>(alloc: Global, join: Join, part: &mut Part<R>) -> Result<Join, PartFault>
-    ensures { (form : PartForm) → IsPart R.remaining part.old form → JoinsPart (λ whole. whole) result join form }
+    ensures joined { (form : PartForm) → IsPart R.remaining part.old form → JoinsPart (λ whole. whole) result join form }
+    ensures ends { EndsPart R.remaining result part.old part.new }
 {
     let bytes = part.read(alloc)?;
     join.with_part(alloc, part.name(), bytes.as_slice())
@@ -35,7 +38,8 @@ fn join_others<R: Read>(
     first: Join,
     parts: &mut [Part<R>],
 ) -> Result<Join, PartRefusal>
-    ensures { (forms : List PartForm) → AreParts R.remaining parts.old forms → JoinsParts (λ whole. whole) result first forms }
+    ensures joined { (forms : List PartForm) → AreParts R.remaining parts.old forms → JoinsParts (λ whole. whole) result first forms }
+    ensures ends { EndsOthers R.remaining result parts.old parts.new }
 {
     let mut join = first;
     for index in 0..parts.len() {
@@ -53,7 +57,8 @@ fn join_all<R: Read>(
     first: &mut Part<R>,
     others: &mut [Part<R>],
 ) -> Result<Join, PartRefusal>
-    ensures { (form : PartForm) (forms : List PartForm) → IsPart R.remaining first.old form → AreParts R.remaining others.old forms → OpensParts (λ join. join) result form forms }
+    ensures opened { (form : PartForm) (forms : List PartForm) → IsPart R.remaining first.old form → AreParts R.remaining others.old forms → OpensParts (λ join. join) result form forms }
+    ensures ends { EndsAll R.remaining result (first.old ∷ others.old) (first.new ∷ others.new) }
 {
     match open_first(alloc, first) {
         Ok(join) => join_others(alloc, join, others),
@@ -72,7 +77,9 @@ pub fn open_parts<R: Read>(
     first: &mut Part<R>,
     others: &mut [Part<R>],
 ) -> Result<OpenFile, PartRefusal>
-    ensures { (form : PartForm) (forms : List PartForm) → IsPart R.remaining first.old form → AreParts R.remaining others.old forms → OpensParts (λ file. file.replica) result form forms }
+    ensures opened { (form : PartForm) (forms : List PartForm) → IsPart R.remaining first.old form → AreParts R.remaining others.old forms → OpensParts (λ file. file.replica) result form forms }
+    // Which refusals there are, and how the readers are left.
+    ensures ends { EndsParts R.remaining is_refusal_of_parts result (first.old ∷ others.old) (first.new ∷ others.new) }
 {
     let store = join_parts(alloc, first, others)?;
     Ok(OpenFile::from_store(store))
@@ -86,6 +93,7 @@ pub fn join_parts<R: Read>(
 ) -> Result<Store, PartRefusal>
     ensures opened { (form : PartForm) (forms : List PartForm) → IsPart R.remaining first.old form → AreParts R.remaining others.old forms → OpensParts (λ store. store.replica) result form forms }
     ensures segments { IfOk result (λ store. AreCanonicalOf store.replica.schema store.replica.state.batches store.segments) }
+    ensures ends { EndsParts R.remaining is_refusal_of_parts result (first.old ∷ others.old) (first.new ∷ others.new) }
 {
     let join = join_all(alloc, first, others)?;
     match join.into_store(alloc) {
@@ -104,7 +112,8 @@ pub fn pack<R: Read, W: Write>(
     others: &mut [Part<R>],
     writer: &mut Counted<W>,
 ) -> Result<(), PartRefusal>
-    ensures { (form : PartForm) (forms : List PartForm) → IsPart R.remaining first.old form → AreParts R.remaining others.old forms → PacksParts result (W.contents writer.old.0) (W.contents writer.new.0) form forms }
+    ensures packed { (form : PartForm) (forms : List PartForm) → IsPart R.remaining first.old form → AreParts R.remaining others.old forms → PacksParts result (W.contents writer.old.0) (W.contents writer.new.0) form forms }
+    ensures ends { EndsParts R.remaining is_refusal_of_pack result (first.old ∷ others.old) (first.new ∷ others.new) }
 {
     let store = join_parts(alloc, first, others)?;
     match write_part(alloc, &store, true, writer) {

@@ -1,6 +1,6 @@
 //! A part of a folder.
 ghost use Rattle.std.specs.Prelude.{◌≡◌, List, ℕ, Some, IfOk, IfErr, string_bytes};
-ghost use Rattle.column_file.specs.Input.{IsUnread};
+ghost use Rattle.column_file.specs.Input.{IsUnread, ReadsWhole, is_unread};
 
 use column_file::read_input;
 use std::alloc::Global;
@@ -55,6 +55,7 @@ impl<R: Read> Part<R> {
         ensures name { self.new.0 ≡ self.old.0 }
         ensures bytes { IfOk result (λ bytes. (input : List ℕ) → R.remaining self.old.1.0 ≡ Some input → bytes.items ≡ input) }
         ensures refused { IfErr result IsUnread }
+        ensures reads { ReadsWhole R.remaining is_unread self.old.1 self.new.1 result }
     {
         read_input(alloc, &mut self.reader)
     }

@@ -1,7 +1,9 @@
 -- How answers come to their causes.
-use Rattle.std.proofs.Common.{◌≡◌, inl, inr, ℕ, true, false, Result, Ok, Err, IfOk, IfSome, OnErr, Option, Some, None, List, [], ◌∷◌, ◌++◌, length, take, refl, sym, ◌∙◌, ap, append_assoc, arith}
+use Rattle.std.proofs.Common.{◌≡◌, inl, inr, ℕ, Bool, true, false, ◌||◌, map, Result, Ok, Err, IfOk, IfSome, OnErr, Option, Some, None, List, [], ◌∷◌, ◌++◌, length, take, refl, sym, ◌∙◌, ap, append_assoc, arith}
+use Rattle.std.specs.List.{list_any}
 use Rattle.std.specs.Result.{is_ok}
 use Rattle.folder_history.specs.Call.{Call, Synced, Taken}
+use Rattle.folder_history.specs.Disk.{Among}
 use Rattle.folder_history.specs.Parts.{Parts, IsNoPart}
 use Rattle.folder_protocol.specs.Causes.{Fails, AnyIs, HasCall, AnswersLink, LookCause, IsNamed}
 use Rattle.folder_protocol.specs.declared.putting.Outcome.{Outcome}
@@ -140,3 +142,22 @@ pub all_named_later : {E : Type 0} (r : Result Outcome E) (name : List ℕ) (bef
     → IfOk r (λ how. IsNamed how name mid after) → IfOk r (λ how. IsNamed how name before after)
 all_named_later (Ok how) name before mid after first named = named_later how name before mid after first named
 all_named_later (Err e) name before mid after first named = tt
+
+-- a cause of some answers, between some calls more
+pub cause_between : {T E : Type 0} (r : Result T E) (P : T → Type 0) (C : Call → Type 0) (before mid after last : List Call) → Follows before mid → Follows after last
+    → IfOk r (λ x. P x → HasCall C mid after) → IfOk r (λ x. P x → HasCall C before last)
+cause_between (Ok x) P C before mid after last first then cause = λ p. has_before C before after last then (has_later C before mid after first (cause p))
+cause_between (Err e) P C before mid after last first then cause = tt
+
+-- a name that no test finds is not among some
+pub none_found : {X : Type 0} (f : X → List ℕ) (t : X → Bool) (name : List ℕ) → ((x : X) → f x ≡ name → t x ≡ true) → (xs : List X) → list_any t xs ≡ false → Among name (map f xs) → ⊥
+none_found f t name tells [] none among = absurd among
+none_found f t name tells (x ∷ xs) none (inl is) =
+    let yes : list_any t (x ∷ xs) ≡ true = ap (λ (b : Bool). b || list_any t xs) (tells x (sym is)) in
+    let wrong : true ≡ false = sym yes ∙ none in
+    cc
+none_found f t name tells (x ∷ xs) none (inr among) = none_found f t name tells xs (rest (t x) (list_any t xs) none) among
+  where
+    rest : (a b : Bool) → (a || b) ≡ false → b ≡ false
+    rest true b e = cc
+    rest false b e = e

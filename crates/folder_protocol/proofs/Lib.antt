@@ -1,3 +1,4 @@
 pub mod Lines
 pub mod ReadLines
 pub mod Causing
+pub mod Kept

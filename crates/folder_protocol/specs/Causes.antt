@@ -1,6 +1,7 @@
 -- What an answer of the protocol comes of: calls that failed, and what calls found.
 use Rattle.std.specs.Prelude.{◌≡◌, ◌≢◌, ◌⊎◌, ℕ, false, List, [], ◌∷◌, ◌++◌, Some, None}
 use Rattle.folder_history.specs.Call.{Call, Made, Wrote, Synced, Linked, Removed, Settled, Locked, Unlocked, Began, Listed, Read, Linking, Done, Taken, Failed}
+use Rattle.folder_history.specs.Disk.{Among}
 use Rattle.folder_protocol.specs.declared.putting.Outcome.{Outcome}
 use Rattle.folder_protocol.specs.declared.putting.Outcome.TheVariants.{OnDisk, Unsynced, Gone, Damaged}
 
@@ -38,6 +39,11 @@ FindsNone name call = ⊥
 abbrev pub FindsOther : List ℕ → List ℕ → Call → Type 0
 FindsOther name bytes (Read other answer) = (other ≡ name) × (found : List ℕ) × (answer ≡ Some (Some found)) × (found ≢ bytes)
 FindsOther name bytes call = ⊥
+
+-- The names that a listing gave lacked one of these.
+abbrev pub Lacks : List (List ℕ) → Call → Type 0
+Lacks names (Listed (Some listed)) = (name : List ℕ) × Among name names × (Among name listed → ⊥)
+Lacks names call = ⊥
 
 -- one of these calls is so
 abbrev pub AnyIs : (Call → Type 0) → List Call → Type 0

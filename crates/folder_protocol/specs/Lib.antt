@@ -1,3 +1,5 @@
 pub mod Goes
 pub mod Reads
 pub mod Causes
+pub mod Note
+pub mod Keeping

@@ -1,11 +1,12 @@
 //! How a part is put in the place of those that it was made of.
-ghost use Rattle.std.specs.Prelude.{◌≡◌, List, ℕ, ◌++◌, map, Some, OnErr, IfOk, IfSome};
+ghost use Rattle.std.specs.Prelude.{◌≡◌, List, ℕ, ◌++◌, map, false, Some, None, OnErr, IfOk, IfSome};
 ghost use Rattle.std.specs.String.{string_bytes};
 ghost use Rattle.folder_history.specs.Call.{Call, Exclusive, lock_of};
+ghost use Rattle.folder_history.specs.Disk.{Among};
 ghost use Rattle.folder_history.specs.Parts.{Parts, IsNoPart};
 ghost use Rattle.folder_history.specs.Turn.{Ready, stage_of};
 ghost use Rattle.folder_protocol.specs.Goes.{GoesInTurn, AreJoined, AreRemoved};
-ghost use Rattle.folder_protocol.specs.Causes.{Fails, HasCall, LookCause};
+ghost use Rattle.folder_protocol.specs.Causes.{Fails, Lacks, HasCall, LookCause};
 
 use crate::Folder;
 use crate::putting::{Outcome, write_new};
@@ -32,6 +33,8 @@ pub fn replace<F: Folder>(
     ensures gone { IfOk result (λ answer. answer ≡ Some Outcome.OnDisk → AreRemoved (map string_bytes joined.now) (F.history folder.old) (F.history folder.new)) }
     // Any other answer but None has its cause: a sync that failed, no file, or other bytes; and so has an error: a call that failed.
     ensures cause { IfOk result (λ answer. IfSome answer (λ how. LookCause how name.now bytes.now (F.history folder.old) (F.history folder.new))) }
+    // None has its cause: a listing that lacked one of them.
+    ensures overtaken { IfOk result (λ answer. answer ≡ None → HasCall (Lacks (map string_bytes joined.now)) (F.history folder.old) (F.history folder.new)) }
     ensures fails { OnErr result (HasCall Fails (F.history folder.old) (F.history folder.new)) }
 {
     match write_new(folder, temporary, bytes) {
@@ -55,6 +58,7 @@ fn lock_and_replace<F: Folder>(
     ensures in_turn { (parts : Parts) → name.now ≡ parts.name_of bytes.now → IsNoPart parts temporary.now → stage_of parts (F.history folder.old) ≡ Ready temporary.now bytes.now → AreJoined parts bytes.now (map string_bytes joined.now) (F.history folder.old) → GoesInTurn parts (F.history folder.old) (F.history folder.new) }
     ensures gone { IfOk result (λ answer. answer ≡ Some Outcome.OnDisk → AreRemoved (map string_bytes joined.now) (F.history folder.old) (F.history folder.new)) }
     ensures cause { IfOk result (λ answer. IfSome answer (λ how. LookCause how name.now bytes.now (F.history folder.old) (F.history folder.new))) }
+    ensures overtaken { IfOk result (λ answer. answer ≡ None → HasCall (Lacks (map string_bytes joined.now)) (F.history folder.old) (F.history folder.new)) }
     ensures fails { OnErr result (HasCall Fails (F.history folder.old) (F.history folder.new)) }
 {
     match folder.lock() {
@@ -82,6 +86,7 @@ fn look_and_replace<F: Folder>(
     ensures in_turn { (parts : Parts) → name.now ≡ parts.name_of bytes.now → IsNoPart parts temporary.now → stage_of parts (F.history folder.old) ≡ Ready temporary.now bytes.now → lock_of (F.history folder.old) ≡ Some Exclusive → AreJoined parts bytes.now (map string_bytes joined.now) (F.history folder.old) → GoesInTurn parts (F.history folder.old) (F.history folder.new) }
     ensures gone { IfOk result (λ answer. answer ≡ Some Outcome.OnDisk → AreRemoved (map string_bytes joined.now) (F.history folder.old) (F.history folder.new)) }
     ensures cause { IfOk result (λ answer. IfSome answer (λ how. LookCause how name.now bytes.now (F.history folder.old) (F.history folder.new))) }
+    ensures overtaken { IfOk result (λ answer. answer ≡ None → HasCall (Lacks (map string_bytes joined.now)) (F.history folder.old) (F.history folder.new)) }
     ensures fails { OnErr result (HasCall Fails (F.history folder.old) (F.history folder.new)) }
 {
     match are_there(alloc, folder, joined) {
@@ -97,17 +102,38 @@ fn look_and_replace<F: Folder>(
     }
 }
 
-/// Whether a folder of which the exclusive lock is held has all of these names. Its listing is taken to be in ascending order; if it is
-/// not, a name may be missed.
+/// Whether a folder of which the exclusive lock is held has all of these names.
 fn are_there<F: Folder>(alloc: Global, folder: &mut F, names: &[String]) -> io::Result<bool>
     ensures in_turn { (parts : Parts) → lock_of (F.history folder.old) ≡ Some Exclusive → GoesInTurn parts (F.history folder.old) (F.history folder.new) }
     ensures follows { (calls : List Call) × (F.history folder.new ≡ calls ++ F.history folder.old) }
     ensures stays { (parts : Parts) → stage_of parts (F.history folder.new) ≡ stage_of parts (F.history folder.old) }
     ensures locked { lock_of (F.history folder.new) ≡ lock_of (F.history folder.old) }
+    ensures lacking { IfOk result (λ there. there ≡ false → HasCall (Lacks (map string_bytes names.now)) (F.history folder.old) (F.history folder.new)) }
     ensures fails { OnErr result (HasCall Fails (F.history folder.old) (F.history folder.new)) }
 {
     let listed = folder.list(alloc)?;
-    Ok(names.iter().all(|name| listed.binary_search(name).is_ok()))
+    Ok(has_each(listed.as_slice(), names))
+}
+
+/// Whether all of these names are among those that were listed.
+fn has_each(listed: &[String], names: &[String]) -> bool
+    ensures { result ≡ false → (name : List ℕ) × Among name (map string_bytes names.now) × (Among name (map string_bytes listed.now) → ⊥) }
+{
+    let mut at = 0;
+    while at < names.len() {
+        if !has_name(listed, &names[at]) {
+            return false;
+        }
+        at += 1;
+    }
+    true
+}
+
+/// Whether a name is among those that were listed, mostly in ascending order.
+fn has_name(listed: &[String], name: &String) -> bool
+    ensures { result ≡ false → Among (string_bytes name.now) (map string_bytes listed.now) → ⊥ }
+{
+    listed.binary_search(name).is_ok() || listed.contains(name)
 }
 
 /// Gives the temporary its name, has it on the disk, and then removes the parts of these names.
@@ -122,6 +148,7 @@ fn place_and_remove<F: Folder>(
     ensures in_turn { (parts : Parts) → name.now ≡ parts.name_of bytes.now → IsNoPart parts temporary.now → stage_of parts (F.history folder.old) ≡ Ready temporary.now bytes.now → lock_of (F.history folder.old) ≡ Some Exclusive → AreJoined parts bytes.now (map string_bytes joined.now) (F.history folder.old) → GoesInTurn parts (F.history folder.old) (F.history folder.new) }
     ensures gone { IfOk result (λ answer. answer ≡ Some Outcome.OnDisk → AreRemoved (map string_bytes joined.now) (F.history folder.old) (F.history folder.new)) }
     ensures cause { IfOk result (λ answer. IfSome answer (λ how. LookCause how name.now bytes.now (F.history folder.old) (F.history folder.new))) }
+    ensures some { IfOk result (λ answer. answer ≡ None → ⊥) }
     ensures fails { OnErr result (HasCall Fails (F.history folder.old) (F.history folder.new)) }
 {
     let linked = folder.link(temporary, name);

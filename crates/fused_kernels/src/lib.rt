@@ -31,7 +31,6 @@ pub use columns::compare_columns;
 pub use comparisons::compare;
 pub use counts::count;
 pub use decoding::decode_into;
-pub use extremes::extreme;
 pub use lanes::Lanes;
 pub use meter::Meter;
 pub use ranges::compare_range;

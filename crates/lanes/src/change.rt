@@ -46,7 +46,7 @@ pub enum Change<'a> {
 }
 
 impl<'a> Change<'a> {
-    /// Changes a file whose lock is had, and gives the lock back.
+    /// Changes a file whose lock this process has, and gives the lock back.
     pub fn make<F: Folder>(
         self,
         alloc: Global,

@@ -5,8 +5,9 @@ use crate::failure::Failure;
 use crate::folder_changes;
 use crate::folders::is_folder;
 use crate::forgetting::forget_folder;
-use crate::inputs::{name_of, reader_of, schema_again, schema_ahead, schema_of, source_of, unread};
-use crate::names::fault_of_names;
+use crate::heads::{Headed, Heads};
+use crate::inputs::{LazyFile, name_of, reader_of, schema_ahead, schema_of, source_of, unread};
+use crate::offer_tables::OfferTables;
 use crate::progress::{LockedReading, Progress};
 use crate::reports::write_line;
 use crate::watched_folder::{Unheld, WatchedFolder};
@@ -22,7 +23,7 @@ use replica_files::{Load, read_csv};
 use replica_store::Offer;
 use std::alloc::{AllocError, Global};
 use std::fs::{self, File, Files};
-use std::io::{self, ErrorKind, Read};
+use std::io::{ErrorKind, Read};
 use std::random::RandomSource;
 use std::rt::Clock;
 use table_model::{BatchName, ColType, Counted, Refusal, RowName, Schema};
@@ -36,6 +37,10 @@ const NO_END: &str = "the last line has no line end: did the command before it f
 /// What is said of a file if its lock may not be made.
 const NO_NEW_FILE: &str =
     "permission denied: the folder that it is in may not be written, and a file is replaced whole";
+
+/// What is said if no name can be drawn.
+const NO_RANDOM: &str =
+    "the system gives no random bytes to draw a batch's name with: give it, by --batch O.N";
 
 /// How many random words an import may draw a name with.
 const DRAWS: usize = 16;
@@ -57,17 +62,12 @@ pub fn create<
     if is_there(rt, file) {
         return Err(Failure::of_file(rt, CommandRefusal::Exists, file));
     }
-    let words = fault_of_names(rt.alloc(), table, columns)?;
-    let about = match &words {
-        Some(words) => About::Names(words.as_str()),
-        None => About::Nothing,
-    };
     change(
         rt,
         progress,
         file,
         Change::Create { table, columns },
-        about,
+        About::Table { table, columns },
         is_quiet,
     )
 }
@@ -105,11 +105,8 @@ pub fn import<
         }
     };
     let words = match first {
-        Some(_) => Ok([0; DRAWS]),
-        None => random_words(rt),
-    };
-    let Ok(words) = words else {
-        return Err(Failure::of(rt.alloc(), CommandRefusal::from(Refusal::ReadFault)));
+        Some(_) => [0; DRAWS],
+        None => random_words(rt)?,
     };
     let words = words.as_slice();
     change(
@@ -243,9 +240,9 @@ pub fn apply<
             return Err(failure);
         }
     };
-    let schemas = schemas_of(rt.alloc(), offers.as_slice())?;
-    let schemas = schemas.as_slice();
-    let about = About::Offers { schemas, sources };
+    let tables = OfferTables::of(rt.alloc(), offers.as_slice())?;
+    let tables = &tables;
+    let about = About::Offers { tables, sources };
     change(
         rt,
         progress,
@@ -272,7 +269,7 @@ pub fn read_offers<'r, R: Eprint + Input + Files + Clock + AllocGlobal>(
     Ok(offers)
 }
 
-/// A refusal of an offer. A folder is none: its parts are.
+/// A refusal of an offer. A folder is not one: its parts are.
 fn unread_offer<R: Files + AllocGlobal>(rt: &R, refusal: Refusal, source: Source<'_>) -> Failure {
     match source {
         Source::File(name) if refusal == Refusal::ReadFault && is_folder(rt, name) => {
@@ -280,25 +277,6 @@ fn unread_offer<R: Files + AllocGlobal>(rt: &R, refusal: Refusal, source: Source
         }
         _ => unread(rt, CommandRefusal::from(refusal), source),
     }
-}
-
-/// The tables of offers.
-pub fn schemas_of(alloc: Global, offers: &[Offer]) -> Result<Vec<Schema>, AllocError> {
-    let mut schemas = Vec::new(alloc);
-    for offer in offers {
-        schemas.push(offer.schema().copy(alloc)?)?;
-    }
-    Ok(schemas)
-}
-
-/// The first of some tables that is another one, if there is one, with its index.
-fn other_table<'a>(schemas: &'a [Schema], schema: &Schema) -> Option<(usize, &'a Schema)> {
-    for (index, found) in schemas.iter().enumerate() {
-        if !found.same(schema) {
-            return Some((index, found));
-        }
-    }
-    None
 }
 
 /// What a source is called in a sentence, by its index.
@@ -315,11 +293,14 @@ pub fn is_there<R: Files>(rt: &R, name: &str) -> bool {
 }
 
 /// Random words, to draw names with.
-pub fn random_words<R: RandomSource>(rt: &R) -> io::Result<[u64; DRAWS]> {
+pub fn random_words<R: RandomSource + AllocGlobal>(rt: &R) -> Result<[u64; DRAWS], Failure> {
     let mut words = [0u64; DRAWS];
     for word in words.iter_mut() {
         let mut bytes = [0u8; 8];
-        rt.fill_bytes(&mut bytes)?;
+        if rt.fill_bytes(&mut bytes).is_err() {
+            let refusal = CommandRefusal::from(Refusal::ReadFault);
+            return Err(Failure::advised(rt.alloc(), refusal, "", NO_RANDOM));
+        }
         *word = u64::from_le_bytes(bytes);
     }
     Ok(words)
@@ -446,13 +427,16 @@ fn known_of_field<'a>(
 enum About<'a> {
     /// Nothing.
     Nothing,
-    /// It has a name that is none, as this sentence says.
-    Names(&'a str),
+    /// It makes a table of this name and these columns.
+    Table {
+        table: &'a str,
+        columns: &'a [(&'a str, ColType)],
+    },
     /// It is for the rows for which this condition is true.
     Condition(&'a str),
     /// It applies offers of these tables, which were read from these sources.
     Offers {
-        schemas: &'a [Schema],
+        tables: &'a OfferTables,
         sources: &'a [Source<'a>],
     },
 }
@@ -478,11 +462,11 @@ fn change<R: Print + Eprint + Files<File = File> + Clock + AllocGlobal>(
         Err(CommandRefusal::Named(Refusal::WriteFault)) => {
             Err(not_written(rt, file, folder.reason()))
         }
-        Err(refusal) => Err(refused(rt, file, refusal, about)),
+        Err(refusal) => Err(refused(rt, file, refusal, about, folder.table(rt.alloc()).as_ref())),
     }
 }
 
-/// Changes a file whose lock is had, and gives the lock back.
+/// Changes a file whose lock this process has, and gives the lock back.
 fn changed<R: Files + AllocGlobal, F: Folder>(
     rt: &R,
     change: Change<'_>,
@@ -496,7 +480,7 @@ fn changed<R: Files + AllocGlobal, F: Folder>(
     Ok(change.make(rt.alloc(), folder, place)?)
 }
 
-/// What a change of a file whose lock is not had is refused as. That the lock can't be made comes after all that the change itself is
+/// The refusal of a change that can't take the lock. That the lock can't be made comes after all that the change itself is
 /// refused as.
 fn not_held<R: Files + AllocGlobal>(
     rt: &R,
@@ -512,9 +496,14 @@ fn not_held<R: Files + AllocGlobal>(
             Err(earlier) => refused_alone(rt, file, CommandRefusal::from(earlier)),
         };
     }
-    match change.judge(rt.alloc(), &mut reader_of(rt, place.name())) {
+    let heads = Heads::new(rt.alloc());
+    let mut reader = Counted::new(Headed::new(&heads, LazyFile::new(rt, place.name())));
+    match change.judge(rt.alloc(), &mut reader) {
         Ok(()) => unlocked(rt, file, place, why),
-        Err(earlier) => refused(rt, file, CommandRefusal::from(earlier), about),
+        Err(earlier) => {
+            let refusal = CommandRefusal::from(earlier);
+            refused(rt, file, refusal, about, heads.last_table().as_ref())
+        }
     }
 }
 
@@ -530,7 +519,7 @@ pub fn not_written<R: Files + AllocGlobal>(
     }
 }
 
-/// The refusal of a file whose lock is not had: of the lock, where something else has its name.
+/// The refusal of a file whose lock could not be taken: of the lock, if something else has its name.
 pub fn unlocked<R: Files + AllocGlobal>(rt: &R, file: &str, place: &Place, why: Unheld) -> Failure {
     match why.error {
         HoldError::Busy => Failure::of_file(rt, CommandRefusal::Busy, file),
@@ -543,45 +532,36 @@ pub fn unlocked<R: Files + AllocGlobal>(rt: &R, file: &str, place: &Place, why: 
     }
 }
 
-/// A refusal of a change, with what it is said of: the file, unless it is an argument or another input that is refused.
+/// A refusal of a change, with what it is said of: the file, which has this table if it is known, unless it is an argument or another
+/// input that is refused.
 fn refused<R: Files + AllocGlobal>(
     rt: &R,
     file: &str,
     refusal: CommandRefusal,
     about: About<'_>,
+    schema: Option<&Schema>,
 ) -> Failure {
     match (refusal, about) {
         (CommandRefusal::Named(refusal), About::Condition(condition)) if is_of_a_text(refusal) => {
-            of_condition(rt, file, refusal, condition)
+            with_columns(rt.alloc(), refusal, condition, schema)
         }
-        (CommandRefusal::Named(Refusal::SchemaDiffers), About::Offers { schemas, sources }) => {
-            match schema_again(rt, file) {
-                Some(wanted) => of_other_table(rt, file, &wanted, schemas, sources),
+        (CommandRefusal::Named(Refusal::SchemaDiffers), About::Offers { tables, sources }) => {
+            match schema {
+                Some(wanted) => of_other_table(
+                    rt,
+                    file,
+                    wanted,
+                    tables.other_than(wanted),
+                    sources,
+                ),
                 None => refused_alone(rt, file, refusal),
             }
         }
-        (CommandRefusal::Named(Refusal::BadSchema), About::Names(words)) => {
-            let knowledge = Knowledge::Advice(words);
-            let sentence = Sentence {
-                knowledge,
-                ..Sentence::new(refusal)
-            };
-            Failure::new(rt.alloc(), sentence)
+        (CommandRefusal::Named(Refusal::BadSchema), About::Table { table, columns }) => {
+            Failure::of_names(rt.alloc(), table, columns)
         }
         _ => refused_alone(rt, file, refusal),
     }
-}
-
-/// A refusal of a condition, with the columns that the file has.
-fn of_condition<R: Files + AllocGlobal>(
-    rt: &R,
-    file: &str,
-    refusal: Refusal,
-    condition: &str,
-) -> Failure {
-    let found = schema_again(rt, file);
-    let schema = found.as_ref();
-    with_columns(rt.alloc(), refusal, condition, schema)
 }
 
 /// A refusal of a condition over a table, if its table is known.
@@ -599,15 +579,15 @@ pub fn with_columns(
     Failure::of_text(alloc, refusal, "", text)
 }
 
-/// A refusal of an offer of another table, with the names of both tables.
+/// A refusal of an offer of another table, which is one of those that were read from these sources, with both tables.
 pub fn of_other_table<R: Files + AllocGlobal>(
     rt: &R,
     file: &str,
     wanted: &Schema,
-    schemas: &[Schema],
+    found: Option<(usize, &Schema)>,
     sources: &[Source<'_>],
 ) -> Failure {
-    match other_table(schemas, wanted) {
+    match found {
         Some((index, found)) => {
             Failure::of_tables(rt.alloc(), name_at(sources, index), found, file, wanted)
         }
@@ -631,7 +611,7 @@ pub fn refused_alone<R: Files + AllocGlobal>(
     }
 }
 
-/// Says what came of a change. Where that can't be written the file is changed all the same.
+/// Says what came of a change. If that can't be written, the file is changed all the same.
 fn say<R: Print + Eprint + Files + AllocGlobal>(
     rt: &R,
     file: &str,

@@ -1,15 +1,17 @@
 //! Why a command failed, and what a person reads of it.
 
+use crate::folders::is_folder;
 use crate::watched::Cause;
 use command_line::Fault;
 use refusal_sentences::{
-    CommandRefusal, KIND_BYTES, Knowledge, Pointer, Printable, Sentence, Text, sentence_of_text,
+    CommandRefusal, KIND_BYTES, Knowledge, Pointer, Printable, Sentence, Text, fault_of_table,
+    sentence_of_text,
 };
 use std::alloc::{AllocError, AllocFailed, Global};
 use std::fs::{self, Files};
 use std::io::{ErrorKind, Read, Write};
 use std::process::ExitCode;
-use table_model::{Refusal, Schema};
+use table_model::{ColType, Refusal, Schema};
 
 /// What standard output is called in a sentence.
 const OUTPUT: &str = "standard output";
@@ -20,6 +22,9 @@ pub const INPUT: &str = "standard input";
 /// What is said of a file that isn't there and is named like an option.
 const NO_OPTION: &str =
     "no such file or folder (and this command has no such option: options are written in full, as --help)";
+
+/// What is said of a file that is not made, since a folder has its name.
+const FOLDER_EXISTS: &str = "there is a folder of this name already";
 
 /// Why a command failed, and what is said of it below the line of the refusal.
 #[derive(Drop)]
@@ -91,6 +96,7 @@ impl Failure {
             CommandRefusal::Named(Refusal::BadMagic) => return Failure::of_kind(rt, name),
             CommandRefusal::Named(Refusal::ReadFault) => known_of_reading(rt, name),
             CommandRefusal::Named(Refusal::WriteFault) => known_of_writing(rt, name),
+            CommandRefusal::Exists if is_folder(rt, name) => Knowledge::Advice(FOLDER_EXISTS),
             _ => Knowledge::Nothing,
         };
         Failure::new(
@@ -179,7 +185,7 @@ impl Failure {
         Failure::new(alloc, sentence)
     }
 
-    /// A refusal of an input of one table where a file has another one.
+    /// A refusal of an input of one table, since a file has another one.
     pub fn of_tables(
         alloc: Global,
         subject: &str,
@@ -212,6 +218,20 @@ impl Failure {
         }
     }
 
+    /// A refusal of a table that is to be made, of this name and these columns.
+    pub fn of_names(alloc: Global, table: &str, columns: &[(&str, ColType)]) -> Failure {
+        let refusal = CommandRefusal::from(Refusal::BadSchema);
+        let knowledge = match fault_of_table(table, columns) {
+            Some(fault) => Knowledge::NoTable(fault),
+            None => Knowledge::Nothing,
+        };
+        let sentence = Sentence {
+            knowledge,
+            ..Sentence::new(refusal)
+        };
+        Failure::new(alloc, sentence)
+    }
+
     /// A refusal of the name that begins at a byte of a list of columns, which was given with an option.
     pub fn of_name(alloc: Global, option: &str, list: &str, at: u64, schema: &Schema) -> Failure {
         let rest = usize::try_from(at).ok().and_then(|at| list.get(at..));
@@ -232,7 +252,7 @@ impl Failure {
         }
     }
 
-    /// Reports the failure, and answers the status that it ends with. Where standard error is no terminal the place in a text isn't
+    /// Reports the failure, and answers the status that it ends with. If standard error is no terminal, the place in a text isn't
     /// shown.
     pub fn report<R: Print + Eprint, N: Write>(
         &self,

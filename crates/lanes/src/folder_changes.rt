@@ -2,15 +2,14 @@
 
 use crate::change::Answer;
 use crate::changing::{
-    is_there, load_of, of_other_table, random_words, read_offers, refused_alone, schemas_of,
-    with_columns,
+    is_there, load_of, of_other_table, random_words, read_offers, refused_alone, with_columns,
 };
 use crate::failure::Failure;
 use crate::folders::{Opened, open_folder, read_heads};
 use crate::judged_puts::put_judged;
-use crate::names::fault_of_names;
+use crate::offer_tables::first_other;
 use crate::progress::Progress;
-use crate::putting::{exists, keep_all, make_folder, put_part, say};
+use crate::putting::{keep_all, make_folder, put_part, say};
 use command_line::{CsvForm, Source};
 use file_commands::{HeldRows, Left};
 use folder_parts::{
@@ -24,7 +23,7 @@ use std::random::RandomSource;
 use std::rt::Clock;
 use table_model::{BatchName, ColType, Counted, Refusal, RowName};
 
-/// What is written to memory is refused as that, if it runs out.
+/// A failed write to memory is `Memory`.
 pub fn in_memory(refusal: Refusal) -> CommandRefusal {
     match refusal {
         Refusal::WriteFault => CommandRefusal::from(Refusal::Memory),
@@ -41,20 +40,13 @@ pub fn create<R: Print + Eprint + Files<File = File> + RandomSource + AllocGloba
     is_quiet: bool,
 ) -> Result<(), Failure> {
     if is_there(rt, folder.trim_end_matches('/')) {
-        return Err(exists(rt, folder));
+        return Err(Failure::of_file(rt, CommandRefusal::Exists, folder));
     }
-    let words = fault_of_names(rt.alloc(), table, columns)?;
     let mut writer = Counted::new(Vec::new(rt.alloc()));
-    match (
-        replica_files::create(rt.alloc(), table, columns, &mut writer),
-        &words,
-    ) {
-        (Ok(()), _) => {}
-        (Err(Refusal::BadSchema), Some(words)) => {
-            let refusal = CommandRefusal::from(Refusal::BadSchema);
-            return Err(Failure::advised(rt.alloc(), refusal, "", words.as_str()));
-        }
-        (Err(refusal), _) => return Err(refused_alone(rt, folder, in_memory(refusal))),
+    match replica_files::create(rt.alloc(), table, columns, &mut writer) {
+        Ok(()) => {}
+        Err(Refusal::BadSchema) => return Err(Failure::of_names(rt.alloc(), table, columns)),
+        Err(refusal) => return Err(refused_alone(rt, folder, in_memory(refusal))),
     }
     let replaced = make_folder(rt, folder, writer.into_inner().as_slice())?;
     say(
@@ -116,9 +108,7 @@ fn import_drawn<
     if let Err(refusal) = check_room(heads.batches.as_slice(), load.batches() as u32) {
         return Err(refused_alone(rt, folder, CommandRefusal::from(refusal)));
     }
-    let Ok(words) = random_words(rt) else {
-        return Err(Failure::of(rt.alloc(), CommandRefusal::from(Refusal::ReadFault)));
-    };
+    let words = random_words(rt)?;
     let mut writer = Counted::new(Vec::new(rt.alloc()));
     match part_of_load(rt.alloc(), load, &words, &mut writer) {
         Ok(done) if done.new == 0 => {
@@ -309,8 +299,8 @@ pub fn apply<
         }
         Err(Refusal::SchemaDiffers) => {
             let schema = opened.held.schema();
-            let schemas = schemas_of(rt.alloc(), offers)?;
-            Err(of_other_table(rt, folder, schema, schemas.as_slice(), sources))
+            let found = first_other(offers, schema);
+            Err(of_other_table(rt, folder, schema, found, sources))
         }
         Err(refusal) => Err(refused_alone(rt, folder, in_memory(refusal))),
     }

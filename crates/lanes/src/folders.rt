@@ -74,7 +74,7 @@ pub struct Heads {
 }
 
 impl Parts {
-    /// The parts among the names in a folder. A name that a folder has is none; that is looked at only if it is asked for.
+    /// The parts among the names in a folder. A folder is not a part, even if named like one; that is looked at only if it is asked for.
     fn among<R: Files + AllocGlobal>(
         rt: &R,
         folder: &str,
@@ -137,6 +137,11 @@ impl Parts {
             }
         }
         Ok(paths)
+    }
+
+    /// The names, in ascending order.
+    pub fn names(&self) -> &[String] {
+        self.names.as_slice()
     }
 
     /// The paths.

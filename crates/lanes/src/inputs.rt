@@ -2,25 +2,16 @@
 
 use crate::failure::{Failure, INPUT};
 use crate::folders::{Opened, is_folder, open_folder};
+use crate::heads::{HEAD_BYTES, schema_in};
 use crate::progress::{Progress, Told};
-use column_file::read_schema;
 use command_line::Source;
 use either::Either;
-use partial_answers::PartialAnswer;
-use partial_file::read_partial_answer;
 use refusal_sentences::{CommandRefusal, Sentence};
 use replica_files::{OpenFile, file_schema};
-use std::alloc::Global;
 use std::fs::{self, File, Files};
 use std::io::{self, Read};
 use std::rt::Clock;
 use table_model::{Counted, Refusal, Schema};
-
-/// How many bytes at the head of a file have its schema: at most 6 before it, 67 of the table, and 66 a column.
-const HEAD_BYTES: usize = 4096;
-
-/// Where a file has its version: two bytes, the lower first.
-const VERSION_AT: usize = 4;
 
 /// A file that is opened at the first read and closed at its end.
 #[derive(Drop)]
@@ -42,12 +33,7 @@ impl<'r, 'n, R: Files> LazyFile<'r, 'n, R> {
         }
     }
 
-    /// Whether a read has begun.
-    pub fn is_begun(&self) -> bool {
-        self.is_begun
-    }
-
-    /// Opens the file, where no read has begun.
+    /// Opens the file, if no read has begun.
     fn begin(&mut self) -> io::Result<()> {
         if !self.is_begun {
             self.is_begun = true;
@@ -89,31 +75,6 @@ pub fn source_of<'r, 'n, R: Eprint + Input + Files + Clock>(
     Counted::new(Told::new(progress, source, input))
 }
 
-/// The schema of a file that was read before, for a sentence. None if it can't be read twice, as a pipe can't.
-pub fn schema_again<R: Files + AllocGlobal>(rt: &R, name: &str) -> Option<Schema> {
-    match fs::metadata(rt, name) {
-        Ok(found) if found.is_file() => file_schema(rt.alloc(), &mut reader_of(rt, name)).ok(),
-        _ => None,
-    }
-}
-
-/// A partial answer that was read before, for a sentence. None if it can't be read twice, as a pipe can't.
-pub fn partial_answer_again<R: Files + AllocGlobal>(
-    rt: &R,
-    source: Source<'_>,
-) -> Option<PartialAnswer> {
-    let Source::File(name) = source else {
-        return None;
-    };
-    match fs::metadata(rt, name) {
-        Ok(found) if found.is_file() => read_partial_answer(
-            rt.alloc(),
-            &mut reader_of(rt, name),
-        ).ok(),
-        _ => None,
-    }
-}
-
 /// What a source is called in a sentence.
 pub fn name_of<'n>(source: Source<'n>) -> &'n str {
     match source {
@@ -148,7 +109,7 @@ pub fn schema_of<R: Files + AllocGlobal>(rt: &R, file: &str) -> Result<Schema, F
     }
 }
 
-/// The schema that a file begins with, where it can be read of the file's first bytes; else the whole file is judged. What else is in the
+/// The schema that a file begins with, if it can be read of the file's first bytes; else the whole file is judged. What else is in the
 /// file is not looked at.
 pub fn schema_ahead<R: Files + AllocGlobal>(rt: &R, file: &str) -> Result<Schema, Failure> {
     let mut head = [0u8; HEAD_BYTES];
@@ -176,16 +137,6 @@ fn read_front<D: Read>(source: &mut D, room: &mut [u8]) -> usize {
         filled = filled.saturating_add(count);
     }
     filled
-}
-
-/// The schema in a file's first bytes, if it is there.
-fn schema_in(alloc: Global, head: &[u8]) -> Option<Schema> {
-    let (front, rest) = head.split_at_checked(VERSION_AT + 2)?;
-    let version = u64::from(front[VERSION_AT]) + 256 * u64::from(front[VERSION_AT + 1]);
-    match read_schema(alloc, version, head.len(), rest) {
-        Ok((schema, _)) => Some(schema),
-        Err(_) => None,
-    }
 }
 
 /// What a file or a folder holds, once all of it was read and judged.

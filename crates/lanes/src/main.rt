@@ -4,16 +4,18 @@
 mod change;
 mod changing;
 mod checked_part;
+mod combined;
 mod failure;
 mod folder_changes;
 mod folder_reports;
 mod folders;
 mod forgetting;
+mod heads;
 mod inputs;
 mod inspecting;
 mod judged_puts;
 mod merging;
-mod names;
+mod offer_tables;
 mod output;
 mod packing;
 mod part_failures;
@@ -209,7 +211,7 @@ fn answer<
     Ok(ExitCode::SUCCESS)
 }
 
-/// Answers queries, and ends with the status of a refusal where a line was refused and passed over.
+/// Answers queries, and ends with the status of a refusal if a line was refused and passed over.
 fn query<
     R: Print + Eprint + Input + Files<File = File> + Clock + AllocGlobal + Clone + Drop,
     N: Write,

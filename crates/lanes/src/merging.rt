@@ -4,7 +4,8 @@ use crate::change::Answer;
 use crate::checked_part::{CheckedPart, PartReason};
 use crate::failure::Failure;
 use crate::folders::{Parts, is_folder};
-use crate::inputs::{LazyFile, schema_again};
+use crate::heads::{Headed, Heads};
+use crate::inputs::LazyFile;
 use crate::output::{Output, is_special, write_in_place};
 use crate::part_failures::{Unread, refused as part_refused, unread_for};
 use crate::progress::{Progress, Told};
@@ -16,13 +17,13 @@ use file_commands::{Left, merged};
 use folder_parts::PartFault;
 use part_folder::Patience;
 use refusal_sentences::CommandRefusal;
-use std::alloc::{AllocError, Global};
+use std::alloc::AllocError;
 use std::fs::{self, File, Files};
 use std::io::Read;
 use std::os::unix::fs::MetadataExt;
 use std::random::RandomSource;
 use std::rt::Clock;
-use table_model::{BatchName, Counted, Refusal};
+use table_model::{Counted, Refusal};
 
 /// What to do instead of a merge into a folder that is there.
 const NO_FOLDER: &str =
@@ -33,7 +34,7 @@ const CHUNK: usize = 65_536;
 
 /// Writes the canonical file of what all of some files hold, of which there is at least one, and then `ok`, unless it is to be quiet
 /// or what is written is no regular file, since that may be standard output itself. The files are judged in order. The one that is
-/// written is replaced whole, and where it is one of them its lock is had from the beginning. For a folder among them its parts are
+/// written is replaced whole, and if it is one of them its lock is taken at the beginning. For a folder among them its parts are
 /// read. A name that ends in `/` is that of a folder that is made, with what is written as its one part.
 pub fn merge<
     R: Print + Eprint + Files<File = File> + Clock + RandomSource + AllocGlobal + Clone + Drop,
@@ -97,7 +98,7 @@ fn fill<R: Eprint + Files<File = File> + Clock + AllocGlobal + Clone + Drop>(
 }
 
 /// Replaces a file by what all of some files hold. Those that are the file itself are read under the name that its lock is of, so that a
-/// link that is switched meanwhile changes nothing. If one of them is the file itself and nothing changed, the file is had on the disk as it is.
+/// link that is switched meanwhile changes nothing. If one of them is the file itself and nothing changed, the file is synced as it is.
 fn replace<R: Eprint + Files<File = File> + Clock + AllocGlobal + Clone + Drop>(
     rt: &R,
     progress: &Progress<'_, R>,
@@ -265,7 +266,10 @@ impl Inputs {
 }
 
 /// A file, or a part of a folder.
-type Input<'r, 'n, R> = Told<'r, 'n, R, Either<LazyFile<'r, 'n, R>, CheckedPart<'r, 'n, R>>>;
+type Input<'r, 'n, R> = Either<LazyFile<'r, 'n, R>, CheckedPart<'r, 'n, R>>;
+
+/// An input whose head is kept, and of which it is said how far it is.
+type ToldInput<'r, 'n, 'h, R> = Counted<Told<'r, 'n, R, Headed<'h, Input<'r, 'n, R>>>>;
 
 /// The canonical file of what all inputs hold.
 fn merged_inputs<'r, R: Eprint + Files + Clock + AllocGlobal>(
@@ -274,6 +278,7 @@ fn merged_inputs<'r, R: Eprint + Files + Clock + AllocGlobal>(
     names: &[&str],
     inputs: &Inputs,
 ) -> Result<Vec<u8>, Unread> {
+    let heads = Heads::new(rt.alloc());
     let mut readers = Vec::new(rt.alloc());
     for (path, is_part) in inputs.paths.iter().zip(inputs.are_parts.iter()) {
         let input = if *is_part {
@@ -281,7 +286,8 @@ fn merged_inputs<'r, R: Eprint + Files + Clock + AllocGlobal>(
         } else {
             Either::Left(LazyFile::new(rt, path.as_str()))
         };
-        let told = Told::new(progress, Source::File(path.as_str()), input);
+        let headed = Headed::new(&heads, input);
+        let told = Told::new(progress, Source::File(path.as_str()), headed);
         readers.push(Counted::new(told))?;
     }
     let outcome = match readers.as_mut_slice().split_first_mut() {
@@ -292,10 +298,9 @@ fn merged_inputs<'r, R: Eprint + Files + Clock + AllocGlobal>(
         Ok(bytes) => return Ok(bytes),
         Err(refusal) => refusal,
     };
-    let (begun, reason) = begun(readers);
-    let at = begun.saturating_sub(1);
+    let at = heads.begun().saturating_sub(1);
     let paths = inputs.paths.as_slice();
-    match reason {
+    match reason_of(readers, at) {
         Some(PartReason::Unread(kind)) => Err(unread_for(rt, paths, at, Some(kind))),
         Some(PartReason::Damaged) => Err(Unread::Refused(part_refused(
             rt,
@@ -309,72 +314,55 @@ fn merged_inputs<'r, R: Eprint + Files + Clock + AllocGlobal>(
             at,
             PartFault::Refused(refusal),
         ))),
-        None => Err(Unread::Refused(refused(rt, names, begun, CommandRefusal::from(refusal)))),
+        None => Err(Unread::Refused(refused(rt, names, at, CommandRefusal::from(refusal), &heads))),
     }
 }
 
-/// How many of the readers, which are read in their order, have begun to read, and why nothing was read from the last of these, if it
-/// is a part.
-fn begun<R: Eprint + Files + Clock>(
-    readers: Vec<Counted<Input<'_, '_, R>>>,
-) -> (usize, Option<PartReason>) {
-    let mut count = 0usize;
-    let mut reason = None;
-    for reader in readers {
-        let is_begun = match reader.into_inner().into_inner() {
-            Either::Left(file) => file.is_begun(),
-            Either::Right(part) => {
-                reason = part.reason().or(reason);
-                part.is_begun()
-            }
-        };
-        if is_begun {
-            count = count.saturating_add(1);
-        }
+/// Why nothing was read from the input of an index, if it is a part.
+fn reason_of<R: Eprint + Files + Clock>(
+    mut readers: Vec<ToldInput<'_, '_, '_, R>>,
+    at: usize,
+) -> Option<PartReason> {
+    if at >= readers.len() {
+        return None;
     }
-    (count, reason)
+    let input = readers.swap_remove(at).into_inner().into_inner();
+    match input.into_inner() {
+        Either::Left(_file) => None,
+        Either::Right(part) => part.reason(),
+    }
 }
 
-/// A refusal of a merge's inputs: of the last one of these names that was begun to be read.
+/// A refusal of a merge's inputs: of the one of this index, which was begun last. The heads are those of the inputs.
 fn refused<R: Files + AllocGlobal>(
     rt: &R,
     names: &[&str],
-    begun: usize,
+    at: usize,
     refusal: CommandRefusal,
+    heads: &Heads,
 ) -> Failure {
+    let (Some(first), Some(last)) = (names.first(), names.get(at)) else {
+        return Failure::of(rt.alloc(), refusal);
+    };
     match refusal {
-        CommandRefusal::Named(Refusal::SchemaDiffers) => of_other_table(rt, names, begun),
+        CommandRefusal::Named(Refusal::SchemaDiffers) => {
+            match (heads.last_table(), heads.first_table()) {
+                (Some(found), Some(wanted)) => {
+                    Failure::of_tables(rt.alloc(), *last, &found, *first, &wanted)
+                }
+                _ => Failure::of_file(rt, refusal, *last),
+            }
+        }
         CommandRefusal::Named(Refusal::Memory) => Failure::of(rt.alloc(), refusal),
         CommandRefusal::Named(Refusal::Conflict(batch)) => {
-            of_conflict(rt.alloc(), names, begun, batch)
+            let words = format!(in rt.alloc();
+                "a file before this one has batch {batch} with other rows"
+            );
+            match words {
+                Ok(words) => Failure::advised(rt.alloc(), refusal, *last, words.as_str()),
+                Err(_) => Failure::of(rt.alloc(), refusal),
+            }
         }
-        _ => match names.get(begun.saturating_sub(1)) {
-            Some(name) => Failure::of_file(rt, refusal, *name),
-            None => Failure::of(rt.alloc(), refusal),
-        },
-    }
-}
-
-/// A refusal of the last file that was begun, since one before it has a batch of the same name with other rows.
-fn of_conflict(alloc: Global, names: &[&str], begun: usize, batch: BatchName) -> Failure {
-    let refusal = CommandRefusal::from(Refusal::Conflict(batch));
-    let words = format!(in alloc; "a file before this one has batch {batch} with other rows");
-    match (names.get(begun.saturating_sub(1)), words) {
-        (Some(name), Ok(words)) => Failure::advised(alloc, refusal, *name, words.as_str()),
-        _ => Failure::of(alloc, refusal),
-    }
-}
-
-/// A refusal of the last file that was begun, since its table is another one than that of the first.
-fn of_other_table<R: Files + AllocGlobal>(rt: &R, names: &[&str], begun: usize) -> Failure {
-    let refusal = Refusal::SchemaDiffers;
-    let (Some(first), Some(last)) = (names.first(), names.get(begun.saturating_sub(1))) else {
-        return Failure::from(refusal);
-    };
-    match (schema_again(rt, *last), schema_again(rt, *first)) {
-        (Some(found), Some(wanted)) => {
-            Failure::of_tables(rt.alloc(), *last, &found, *first, &wanted)
-        }
-        _ => Failure::of_file(rt, CommandRefusal::from(refusal), *last),
+        _ => Failure::of_file(rt, refusal, *last),
     }
 }

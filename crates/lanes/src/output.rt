@@ -3,14 +3,14 @@
 use crate::changing::{not_written, say_kept_unsynced, say_unsynced, unlocked};
 use crate::failure::Failure;
 use crate::watched_folder::{Unheld, WatchedFolder};
-use file_commands::put;
-use file_replacing::{Folder, Place, Replaced, SystemFolder, Unwatched, keep};
+use file_commands::{leave, put};
+use file_replacing::{Place, Replaced, SystemFolder, Unwatched, keep};
 use std::alloc::AllocError;
 use std::fs::{self, File, Files};
 use std::io::{self, Write};
 use std::rt::Clock;
 
-/// A file that a merge replaces, and whether its lock is had.
+/// A file that a merge replaces, and whether this process has its lock.
 #[derive(Drop)]
 pub struct Output<'r, R: Files<File = File>> {
     folder: WatchedFolder<SystemFolder<'r, R, Unwatched>>,
@@ -38,12 +38,12 @@ impl<'r, R: Eprint + Files<File = File> + Clock + AllocGlobal> Output<'r, R> {
         self.held = Some(self.folder.hold(rt, &self.place));
     }
 
-    /// Whether the lock is had.
+    /// Whether this process has the lock.
     pub fn is_held(&self) -> bool {
         self.held == Some(Ok(()))
     }
 
-    /// Gives the lock back, where it is had.
+    /// Gives the lock back, if this process has it.
     pub fn leave(self) {
         let Output {
             mut folder,
@@ -51,11 +51,11 @@ impl<'r, R: Eprint + Files<File = File> + Clock + AllocGlobal> Output<'r, R> {
             held,
         } = self;
         if held == Some(Ok(())) {
-            let _ = folder.remove(place.lock());
+            leave(&mut folder, &place);
         }
     }
 
-    /// Has the file on the disk as it is, and gives the lock back, which is had. `file` is what it is called in a sentence.
+    /// Has the file on the disk as it is, and gives the lock back, which this process has. `file` is what it is called in a sentence.
     pub fn keep(self, rt: &R, file: &str) {
         let Output {
             mut folder,

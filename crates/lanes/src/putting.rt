@@ -8,10 +8,8 @@ use crate::reports::write_line;
 use file_commands::Left;
 use file_replacing::Replaced;
 use folder_parts::part_name;
-use folder_protocol::{Outcome, keep, put};
-use part_folder::{
-    MakeFault, Placed, SystemFolder, Temporary, make, path_in, sync_all, temporary_name,
-};
+use folder_protocol::{self, Outcome, keep, put};
+use part_folder::{MakeFault, Placed, SystemFolder, Temporary, make, path_in, temporary_name};
 use refusal_sentences::{CommandRefusal, Printable};
 use std::fs::{File, Files};
 use std::io::ErrorKind;
@@ -156,8 +154,16 @@ pub fn keep_part<R: Files<File = File> + Clock + AllocGlobal + Clone + Drop>(
 }
 
 /// Has the parts of a folder on the disk that a command has read, which adds none since all that it brings is there.
-pub fn keep_all<R: Files<File = File>>(rt: &R, folder: &str, parts: &Parts) -> Left {
-    match sync_all(rt, folder, parts.paths()) {
+pub fn keep_all<R: Files<File = File> + Clock + AllocGlobal + Clone + Drop>(
+    rt: &R,
+    folder: &str,
+    parts: &Parts,
+) -> Left {
+    let kept = match SystemFolder::open(rt, folder) {
+        Ok(mut system) => folder_protocol::keep_all(rt.alloc(), &mut system, parts.names()),
+        Err(error) => Err(error),
+    };
+    match kept {
         Ok(()) => Left::Kept,
         Err(_) => Left::KeptUnsynced,
     }
@@ -178,15 +184,9 @@ pub fn make_folder<R: Files<File = File> + RandomSource + AllocGlobal + Clone + 
     match make(rt, folder, name.as_str(), bytes) {
         Ok(true) => Ok(Replaced::Synced),
         Ok(false) => Ok(Replaced::Unsynced),
-        Err(MakeFault::Exists) => Err(exists(rt, folder)),
+        Err(MakeFault::Exists) => Err(Failure::of_file(rt, CommandRefusal::Exists, folder)),
         Err(MakeFault::System(kind)) => Err(unwritten(rt, folder, kind)),
     }
-}
-
-/// A folder that is not made, since something has its name.
-pub fn exists<R: AllocGlobal>(rt: &R, folder: &str) -> Failure {
-    let words = "there is a file or a folder of this name already";
-    Failure::advised(rt.alloc(), CommandRefusal::Exists, folder, words)
 }
 
 /// Says what came of a change of a folder, unless that is to be quiet. If that can't be written the folder is changed all the same.

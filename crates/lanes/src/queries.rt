@@ -43,7 +43,7 @@ pub fn answer_texts<R: Print + Eprint + Files<File = File> + Clock + AllocGlobal
     }
 }
 
-/// Where a query is among those of a command.
+/// The place of a query among those of a command.
 #[derive(Clone, Copy, PartialEq, Eq)]
 enum Place {
     /// It is the only one.

@@ -1,8 +1,9 @@
 //! The commands on partial answers: what a file gives to it, partial answers combined, and the answer that a partial answer is
 //! finished to.
 
+use crate::combined::Combined;
 use crate::failure::Failure;
-use crate::inputs::{name_of, opened_from, partial_answer_again, source_of, unread};
+use crate::inputs::{name_of, opened_from, source_of, unread};
 use crate::progress::Progress;
 use crate::reports::{buffered, flushed, told};
 use crate::watched::Watched;
@@ -10,13 +11,12 @@ use column_file::read_summary;
 use command_line::{Format, Source, not_for_a_terminal};
 use partial_answers::{PartialAnswer, PartialAnswerFault};
 use partial_commands::{
-    ExpectationError, PartialAnswerError, combine_next, partial_answer_of_store,
+    ExpectationError, PartialAnswerError, combine_with, partial_answer_of_store,
     write_expected_answer, write_finished_answer,
 };
 use partial_file::{read_partial_answer, write_partial_answer};
-use refusal_sentences::{CommandRefusal, Printable, Sentence, Text};
+use refusal_sentences::{CommandRefusal, Sentence, Text};
 use replica_store::Summary;
-use std::alloc::AllocError;
 use std::fs::{File, Files};
 use std::io;
 use std::rt::Clock;
@@ -86,14 +86,22 @@ fn combined<'r, R: Eprint + Input + Files + Clock + AllocGlobal>(
     progress: &'r Progress<'r, R>,
     sources: &[Source<'_>],
 ) -> Result<Option<PartialAnswer>, Failure> {
+    let mut combined = Combined::new(rt.alloc());
     let mut before = None;
     for source in sources {
-        match combine_next(rt.alloc(), before, &mut source_of(rt, progress, *source)) {
-            Ok(partial) => before = Some(partial),
-            Err(PartialAnswerError::Fault(PartialAnswerFault::NotApart(name))) => {
-                return Err(not_apart(rt, sources, *source, name));
-            }
-            Err(error) => return Err(not_combined(rt, sources, *source, error)),
+        let next = match read_partial_answer(rt.alloc(), &mut source_of(rt, progress, *source)) {
+            Ok(next) => next,
+            Err(refusal) => return Err(unread(rt, CommandRefusal::from(refusal), *source)),
+        };
+        if sources.len() > 1 {
+            combined.add(rt.alloc(), name_of(*source), &next)?;
+        }
+        match combine_with(rt.alloc(), before, next) {
+            Ok(both) => before = Some(both),
+            Err(fault) => match combined.refused(rt.alloc(), fault)? {
+                Some(failure) => return Err(failure),
+                None => return Err(refused(rt, *source, PartialAnswerError::Fault(fault))),
+            },
         }
     }
     Ok(before)
@@ -268,129 +276,4 @@ fn refused<R: Files + AllocGlobal>(
             Failure::new(rt.alloc(), sentence)
         }
     }
-}
-
-/// Why a partial answer is not combined with those before it. If the tables or the queries differ, the partial answer and the first
-/// one are read again: each partial answer before this one is of the first one's table and query.
-fn not_combined<R: Files + AllocGlobal>(
-    rt: &R,
-    sources: &[Source<'_>],
-    source: Source<'_>,
-    error: PartialAnswerError,
-) -> Failure {
-    let again = match (error, sources.first()) {
-        (
-            PartialAnswerError::Fault(
-                PartialAnswerFault::SchemaDiffers | PartialAnswerFault::QueryDiffers,
-            ),
-            Some(first),
-        ) => { both_again(rt, *first, source) }
-        _ => None,
-    };
-    match (error, again) {
-        (
-            PartialAnswerError::Fault(PartialAnswerFault::SchemaDiffers),
-            Some((first, wanted, found)),
-        ) => {
-            Failure::of_tables(
-                rt.alloc(),
-                name_of(source),
-                found.schema(),
-                first,
-                wanted.schema(),
-            )
-        }
-        (
-            PartialAnswerError::Fault(PartialAnswerFault::QueryDiffers),
-            Some((first, wanted, found)),
-        ) => {
-            match other_query(rt, name_of(source), found.text(), first, wanted.text()) {
-                Ok(failure) => failure,
-                Err(lacking) => Failure::from(lacking),
-            }
-        }
-        _ => refused(rt, source, error),
-    }
-}
-
-/// Why a partial answer is not apart from those before it. They are read again, up to the first that has to do with the batch. If one of
-/// them can't be read again, the sentence says all that may be.
-fn not_apart<R: Files + AllocGlobal>(
-    rt: &R,
-    sources: &[Source<'_>],
-    source: Source<'_>,
-    name: BatchName,
-) -> Failure {
-    let fault = PartialAnswerFault::NotApart(name);
-    let unknown = refused(rt, source, PartialAnswerError::Fault(fault));
-    let Some(found) = partial_answer_again(rt, source) else {
-        return unknown;
-    };
-    for other in sources {
-        let Some(before) = partial_answer_again(rt, *other) else {
-            return unknown;
-        };
-        match shared(rt, name_of(source), &found, name_of(*other), &before, name) {
-            Ok(Some(failure)) => return failure,
-            Ok(None) => {}
-            Err(lacking) => return Failure::from(lacking),
-        }
-    }
-    unknown
-}
-
-/// The refusal of a partial answer because of another one: both have counted this batch, or the file of one deletes rows of it and the
-/// other has it. None if neither is so.
-fn shared<R: AllocGlobal>(
-    rt: &R,
-    subject: &str,
-    found: &PartialAnswer,
-    other: &str,
-    before: &PartialAnswer,
-    name: BatchName,
-) -> Result<Option<Failure>, AllocError> {
-    let (alloc, other) = (rt.alloc(), Printable(other));
-    let (has, had) = (found.held().holds(name), before.held().holds(name));
-    let words = if has && had {
-        format!(in alloc;
-            "batch {name} is in {other} too: give each file once, or merge the two files and make one partial answer from the result"
-        )?
-    } else if had && found.strays().holds(name) {
-        format!(in alloc;
-            "its file deletes rows of batch {name}, which {other} has: merge the two files, and make one partial answer from the result"
-        )?
-    } else if has && before.strays().holds(name) {
-        format!(in alloc;
-            "this has batch {name}, and the file of {other} deletes rows of it: merge the two files, and make one partial answer from the result"
-        )?
-    } else {
-        return Ok(None);
-    };
-    let refusal = CommandRefusal::NotApart(name);
-    Ok(Some(Failure::advised(alloc, refusal, subject, words.as_str())))
-}
-
-/// The first partial answer's name, and the first partial answer and another one, read again.
-fn both_again<'n, R: Files + AllocGlobal>(
-    rt: &R,
-    first: Source<'n>,
-    source: Source<'_>,
-) -> Option<(&'n str, PartialAnswer, PartialAnswer)> {
-    let wanted = partial_answer_again(rt, first)?;
-    let found = partial_answer_again(rt, source)?;
-    Some((name_of(first), wanted, found))
-}
-
-/// The refusal of a partial answer whose query is not that of the first partial answer.
-fn other_query<R: AllocGlobal>(
-    rt: &R,
-    subject: &str,
-    found: &str,
-    first: &str,
-    wanted: &str,
-) -> Result<Failure, AllocError> {
-    let (found, first, wanted) = (Printable(found), Printable(first), Printable(wanted));
-    let words = format!(in rt.alloc(); "this is of the query {found}, and {first} of {wanted}")?;
-    let refusal = CommandRefusal::QueryDiffers;
-    Ok(Failure::advised(rt.alloc(), refusal, subject, words.as_str()))
 }

@@ -16,7 +16,7 @@ use table_model::{Counted, Refusal};
 const WAITING: &str =
     "lanes: reading a script's lines; lanes run --help shows some, and an end of input ends it\n";
 
-/// Runs a script to its end, and writes its replies to standard output, and where that is asked for its notes. Where a person would
+/// Runs a script to its end, and writes its replies to standard output, and if that is asked for its notes. If a person would
 /// have to type it, the notes say that lines are waited for.
 pub fn run<R: Print + Eprint + Input + Files + Clock + AllocGlobal, N: Write>(
     rt: &R,

@@ -4,7 +4,7 @@ use crate::changing::{is_there, not_written, say_unsynced, unlocked};
 use crate::failure::Failure;
 use crate::inputs::opened;
 use crate::progress::Progress;
-use crate::putting::{exists, make_folder, say_unsynced as say_folder_unsynced};
+use crate::putting::{make_folder, say_unsynced as say_folder_unsynced};
 use crate::reports::write_line;
 use crate::watched_folder::WatchedFolder;
 use file_commands::put;
@@ -23,7 +23,7 @@ use table_spread::NameRuns;
 /// What is said of an output that is named twice.
 const NAMED_TWICE: &str = "this OUT is named twice";
 
-/// Makes new files, and folders of one part where a name ends in `/`, each with a share of what a file or a folder holds, and then says
+/// Makes new files, and folders of one part if a name ends in `/`, each with a share of what a file or a folder holds, and then says
 /// how many there are and how many batches they have. The file is judged first, and that no output is there. If one can't be made, those
 /// that were made before are removed.
 pub fn spread<
@@ -64,7 +64,7 @@ fn are_free<R: Files + AllocGlobal>(rt: &R, outs: &[&str]) -> Result<(), Failure
     for out in outs {
         let place = place_of(rt, *out)?;
         if is_there(rt, bare(*out)) {
-            return Err(exists(rt, *out));
+            return Err(Failure::of_file(rt, CommandRefusal::Exists, *out));
         }
         if places.as_slice().contains(&place) {
             let refusal = CommandRefusal::Exists;
@@ -83,7 +83,7 @@ fn bare(out: &str) -> &str {
     }
 }
 
-/// Where an output is: the folder that its name leads to, and the last part of its name in that.
+/// The place of an output: the folder that its name leads to, and the last part of its name in that.
 fn place_of<R: Files + AllocGlobal>(rt: &R, out: &str) -> Result<String, AllocError> {
     let name = bare(out);
     let (above, last) = match name.rsplit_once('/') {
@@ -178,7 +178,7 @@ fn make_file<R: Eprint + Files<File = File> + Clock + AllocGlobal>(
     }
     if is_there(rt, place.name()) {
         let _ = folder.remove(place.lock());
-        return Err(exists(rt, out));
+        return Err(Failure::of_file(rt, CommandRefusal::Exists, out));
     }
     match put(&mut folder, &place, bytes) {
         Ok(Replaced::Synced) => {}

@@ -1,10 +1,12 @@
-//! A folder that remembers why the system did not do what was asked of it.
+//! A folder that remembers why the system did not do what was asked of it, and what the file began with that was read.
 
+use crate::heads::Head;
 use file_replacing::{Folder, HoldError, Place, hold};
 use std::alloc::Global;
 use std::cell::Cell;
 use std::io::{self, ErrorKind};
 use std::rt::Clock;
+use table_model::Schema;
 
 /// Why a lock is not had, and the system's reason if it is known.
 #[derive(Clone, Copy, Debug, PartialEq, Eq, Drop)]
@@ -13,11 +15,12 @@ pub struct Unheld {
     pub reason: Option<ErrorKind>,
 }
 
-/// A folder, with the kind of the last error of a call that was to write.
+/// A folder, with the kind of the last error of a call that was to write, and the head of the file that was read last.
 #[derive(Drop)]
 pub struct WatchedFolder<F: Folder + Drop> {
     inner: F,
     reason: Cell<Option<ErrorKind>>,
+    head: Option<Head>,
 }
 
 impl<F: Folder + Drop> WatchedFolder<F> {
@@ -26,12 +29,21 @@ impl<F: Folder + Drop> WatchedFolder<F> {
         WatchedFolder {
             inner,
             reason: Cell::new(None),
+            head: None,
         }
     }
 
     /// Why the last call that failed did.
     pub fn reason(&self) -> Option<ErrorKind> {
         self.reason.get()
+    }
+
+    /// The table of the file that was read last.
+    pub fn table(&self, alloc: Global) -> Option<Schema> {
+        match &self.head {
+            Some(head) => head.schema(alloc),
+            None => None,
+        }
     }
 
     /// Has the lock of a file.
@@ -56,14 +68,10 @@ impl<F: Folder + Drop> WatchedFolder<F> {
 impl<F: Folder + Drop> Folder for WatchedFolder<F> {
     ghost history = { λ folder. F.history folder.inner };
 
-    fn open(&mut self, name: &str) -> io::Result<()> {
+    fn open(&mut self, name: &str) -> io::Result<bool> {
         let answer = self.inner.open(name);
         self.note(&answer);
         answer
-    }
-
-    fn is_new(&self) -> bool {
-        self.inner.is_new()
     }
 
     fn try_lock(&mut self) -> io::Result<bool> {
@@ -125,6 +133,12 @@ impl<F: Folder + Drop> Folder for WatchedFolder<F> {
     }
 
     fn read(&mut self, alloc: Global, name: &str) -> io::Result<Option<Vec<u8>>> {
-        self.inner.read(alloc, name)
+        let answer = self.inner.read(alloc, name);
+        if let Ok(Some(bytes)) = &answer {
+            let mut head = Head::new(alloc);
+            head.add(bytes.as_slice());
+            self.head = Some(head);
+        }
+        answer
     }
 }

@@ -13,3 +13,5 @@ pub mod CoverageGivings
 pub mod SpreadGivings
 pub mod HeldChanges
 pub mod Expectations
+pub mod InputFaults
+pub mod InputLoads

@@ -7,6 +7,7 @@ pub mod Faults
 pub mod Handles
 pub mod HeldRows
 pub mod Importing
+pub mod InputColumns
 pub mod Names
 pub mod Opened
 pub mod PartialAnswers

@@ -95,7 +95,7 @@ fn loaded_for(alloc: Global, file: &[u8], csv: &[u8], has_heading: bool) -> Resu
     loaded(alloc, &schema, csv, has_heading)
 }
 
-/// The name of these numbers; none where both are 0.
+/// The name of these numbers; none if both are 0.
 pub(crate) fn name_given(origin: u32, number: u32) -> Option<BatchName>
     ensures { result ≡ name_given origin number }
 {
@@ -146,7 +146,7 @@ pub extern "C" fn lanes_create(
     hand_out(created(alloc, words), room, length, place)
 }
 
-/// Deletes the rows of a file at which a condition is true. It gives the canonical file without them, which is the file itself where
+/// Deletes the rows of a file at which a condition is true. It gives the canonical file without them, which is the file itself if
 /// there is no such row.
 ///
 /// Refused are, in this order, `Syntax` at the first byte that is no UTF-8, the file's first fault, and the condition's.
@@ -165,7 +165,7 @@ pub extern "C" fn lanes_delete(
 }
 
 /// Drops the batches of a file of which every row is deleted. Their deletions stay, and no answer changes. It gives the canonical file
-/// without them, which is the file itself where there is no such batch.
+/// without them, which is the file itself if there is no such batch.
 ///
 /// Refused is the file's first fault.
 #[unsafe(no_mangle)]
@@ -197,8 +197,8 @@ fn imported_text(
 }
 
 /// Imports rows of comma-separated values as batches of 65,536 rows, the last one shorter, under consecutive names: the first is
-/// `origin.number`; where both are 0, it is drawn of the words, which should be random. It gives the canonical file with them, which is
-/// the file itself where nothing is new.
+/// `origin.number`; if both are 0, it is drawn of the words, which should be random. It gives the canonical file with them, which is
+/// the file itself if nothing is new.
 ///
 /// Refused are, in this order, the file's first fault, the text's (`BadCsv`, `LineTooLong`, and `Full` if its rows are more than
 /// 1,048,576 batches), `BadName`, `NumbersSpent`, `Conflict` with the least name that is held with other rows, and `Full`.

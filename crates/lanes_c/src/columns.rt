@@ -177,7 +177,7 @@ fn tell_rows(given: Result<usize, Fault>, rows: &mut usize, place: &mut Place) -
 /// The names have one space between each two, in the order that is wanted; of length 0 they are all, in the table's order. The
 /// condition is what follows WHERE; of length 0 it is every live row. `rows` is how many rows there are. Column `c` has its numbers
 /// from `values[c * rows]` on, 0 at a null; its bits from `valid[c * stride]` on, with a stride of 64 bytes for each 512 rows, the last
-/// ones too: bit `i % 8` of byte `i / 8` is 1 where cell `i` is a value, and 0 where it is null and past the last row; and how many
+/// ones too: bit `i % 8` of byte `i / 8` is 1 if cell `i` is a value, and 0 if it is null and past the last row; and how many
 /// nulls it has at `nulls[c]`. If one of the three rooms is too small, nothing is written but `rows`.
 ///
 /// Refused are, in this order, `NotOpen`; `Syntax` at the first byte of the names, and then of the condition, that is no UTF-8; the

@@ -11,7 +11,7 @@ use partial_commands::{ExpectationError, PartialAnswerError};
 use std::alloc::{AllocError, AllocFailed};
 use table_model::{BatchName, Refusal};
 
-/// Where a call was refused: one or two numbers, which the refusal's name explains, and 0 for each that it has not.
+/// The place at which a call was refused: one or two numbers, which the refusal's name explains, and 0 for each that it has not.
 #[repr(C)]
 #[derive(Clone, Copy, Debug, PartialEq, Eq)]
 pub struct Place {

@@ -12,7 +12,7 @@ use std::alloc::Global;
 use std::boxed::Box;
 use std::marker::Model;
 
-/// A handle: a null pointer where it is closed, and else the pointer of a box, which has a share of a file's store.
+/// A handle: a null pointer if it is closed, and else the pointer of a box, which has a share of a file's store.
 ///
 /// It is no `Drop`, so a call that loses an open handle is refused by the check.
 #[repr(C)]
@@ -43,7 +43,7 @@ impl Table {
         Table { at: at as *mut u8 }
     }
 
-    /// The box of a handle, taken apart; none where the handle is closed.
+    /// The box of a handle, taken apart; none if the handle is closed.
     fn into_loose(self, alloc: Global) -> Option<Loose<Shared, Global>>
         ensures { MatchOption result (self.replica ≡ Closed) (λ shared. self.replica ≡ Open shared.value.store.value.replica) }
     {
@@ -63,7 +63,7 @@ impl Table {
         Table::of(Loose::of(shared))
     }
 
-    /// The box of a handle; none where the handle is closed.
+    /// The box of a handle; none if the handle is closed.
     pub fn into_box(self, alloc: Global) -> Option<Box<Shared>>
         ensures { MatchOption result (self.replica ≡ Closed) (λ shared. self.replica ≡ Open shared.value.store.value.replica) }
     {

@@ -1,9 +1,9 @@
-//! Bytes that are given one after another, and where each of them ends.
+//! Bytes that are given one after another, and the place at which each of them ends.
 ghost use Rattle.std.specs.Prelude.{◌≡◌, ◌++◌, [], ◌∷◌, length, OnOk};
 
 use std::alloc::{AllocError, Global};
 
-/// Answers or files in one row of bytes, and where each of them ends.
+/// Answers or files in one row of bytes, and the place at which each of them ends.
 #[derive(Drop)]
 pub struct Joined {
     pub bytes: Vec<u8>,

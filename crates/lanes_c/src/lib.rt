@@ -4,12 +4,14 @@
 
 mod between;
 mod changing;
+mod column_import;
 mod columns;
 mod coverage;
 mod expecting;
 mod fault;
 mod handle;
 mod held_rows;
+mod input_columns;
 mod joined;
 mod loose;
 mod merging;
@@ -27,6 +29,7 @@ mod table_reading;
 mod taking;
 
 pub use changing::{lanes_create, lanes_delete, lanes_forget, lanes_import};
+pub use column_import::lanes_table_import_columns;
 pub use columns::{lanes_columns, lanes_columns_between, lanes_schema};
 pub use coverage::{lanes_inspect_partial, lanes_inspect_summary};
 pub use expecting::lanes_finish_expected;

@@ -91,7 +91,7 @@ pub extern "C" fn lanes_offer(
     hand_out(offered(alloc, file, summary), room, length, place)
 }
 
-/// Applies an offer to a file. It gives the canonical file that has both, which is the file itself where the offer brings nothing.
+/// Applies an offer to a file. It gives the canonical file that has both, which is the file itself if the offer brings nothing.
 ///
 /// Refused are, in this order, the offer's first fault, the file's, `SchemaDiffers`, `Conflict` with the least name that has two lists
 /// of rows, and `Full`.

@@ -11,7 +11,7 @@ use std::alloc::{AllocError, Global};
 use table_model::{BatchName, Number, Origin, Refusal};
 
 /// The library's version, which is the program's.
-const VERSION: &str = "0.6.0";
+const VERSION: &str = "0.6.1";
 
 /// A number's low 32 bits.
 fn low(number: u64) -> u32 {
@@ -110,7 +110,7 @@ fn refusal_of(number: u8, place: Place) -> Option<Refusal>
     }
 }
 
-/// The name of a number that is none of a refusal's of the table's own calls; empty where it has none.
+/// The name of a number that is not that of a refusal of the table's own calls; empty if it has none.
 fn own_name(number: u8) -> &'static str
     ensures { result.now ≡ own_name number }
 {
@@ -125,7 +125,7 @@ fn own_name(number: u8) -> &'static str
     }
 }
 
-/// The name of a number; empty where it has none.
+/// The name of a number; empty if it has none.
 fn name_of(number: u8) -> &'static str
     ensures { IsNameOf number result.now }
 {
@@ -135,7 +135,7 @@ fn name_of(number: u8) -> &'static str
     }
 }
 
-/// Gives the name of a refusal's number, and its length; 0 where the number has none.
+/// Gives the name of a refusal's number, and its length; 0 if the number has none.
 #[unsafe(no_mangle)]
 pub extern "C" fn lanes_refusal(number: u8, room: &mut [u8]) -> usize
     ensures { IsFilled (λ name. IsNameOf number name) result room.old room.new }
@@ -145,7 +145,7 @@ pub extern "C" fn lanes_refusal(number: u8, room: &mut [u8]) -> usize
     name.len()
 }
 
-/// The refusal of a number that is none of the table's own calls, at a place.
+/// The refusal of a number that is not one of the table's own calls, at a place.
 fn own_refusal(number: u8, place: Place) -> Option<CommandRefusal> {
     match number {
         38 => Some(CommandRefusal::BadCsv {
@@ -160,7 +160,7 @@ fn own_refusal(number: u8, place: Place) -> Option<CommandRefusal> {
     }
 }
 
-/// The sentence of a refusal at a place; none where the number has none.
+/// The sentence of a refusal at a place; none if the number has none.
 fn sentence_of(alloc: Global, number: u8, place: Place) -> Result<String, AllocError> {
     if number == NOT_OPEN {
         return format!(in alloc; "{}", "no file is open in this handle");
@@ -178,7 +178,7 @@ fn sentence_of(alloc: Global, number: u8, place: Place) -> Result<String, AllocE
     format!(in alloc; "{sentence}")
 }
 
-/// Gives the sentence of a refusal's number and place, and its length; 0 where the number has none, or memory runs out.
+/// Gives the sentence of a refusal's number and place, and its length; 0 if the number has none, or memory runs out.
 #[unsafe(no_mangle)]
 pub extern "C" fn lanes_sentence(alloc: Global, number: u8, place: &Place, room: &mut [u8]) -> usize
     ensures { IsFilled (λ sentence. ⊤) result room.old room.new }
@@ -192,10 +192,10 @@ pub extern "C" fn lanes_sentence(alloc: Global, number: u8, place: &Place, room:
     }
 }
 
-/// Gives the library's version, as `0.6.0`, and its length.
+/// Gives the library's version, as `0.6.1`, and its length.
 #[unsafe(no_mangle)]
 pub extern "C" fn lanes_version(room: &mut [u8]) -> usize
-    ensures { IsFilled (λ text. text ≡ codes "0.6.0") result room.old room.new }
+    ensures { IsFilled (λ text. text ≡ codes "0.6.1") result room.old room.new }
 {
     fill(VERSION.as_bytes(), room);
     VERSION.len()

@@ -70,7 +70,7 @@ fn asked_of(alloc: Global, shared: &Shared, sql: &[u8]) -> Result<Vec<u8>, Fault
 
 /// Opens a file: it is judged once, and what it holds is kept until the last handle of it is closed. The bytes may go then.
 ///
-/// Refused is the file's first fault, and then the handle stays as it was. A handle that is open is closed first where 0 is answered.
+/// Refused is the file's first fault, and then the handle stays as it was. A handle that is open is closed first if 0 is answered.
 #[unsafe(no_mangle)]
 pub extern "C" fn lanes_open(alloc: Global, file: &[u8], table: &mut Table, place: &mut Place) -> u8
     ensures { Opens result file.now table.old table.new place.new }
@@ -90,7 +90,7 @@ pub extern "C" fn lanes_open(alloc: Global, file: &[u8], table: &mut Table, plac
 
 /// Gives a second handle of what a first one has, for another thread. What the second one had before is closed.
 ///
-/// Refused are `NotOpen` where the first one is closed, and `Memory`.
+/// Refused are `NotOpen` if the first one is closed, and `Memory`.
 #[unsafe(no_mangle)]
 pub extern "C" fn lanes_share(alloc: Global, table: &mut Table, other: &mut Table) -> u8
     ensures { Shares result table.old table.new other.old other.new }
@@ -111,7 +111,7 @@ pub extern "C" fn lanes_share(alloc: Global, table: &mut Table, other: &mut Tabl
 
 /// Answers a query over the file that a handle is of. It gives what `lanes_query` gives of that file, and refuses what that refuses.
 ///
-/// Refused is `NotOpen` where the handle is closed.
+/// Refused is `NotOpen` if the handle is closed.
 #[unsafe(no_mangle)]
 pub extern "C" fn lanes_ask(
     alloc: Global,

@@ -94,7 +94,7 @@ fn finished(alloc: Global, partial: &[u8], format: Format) -> Result<Vec<u8>, Fa
 
 /// Gives what the file that a handle is of gives to the answer of a query over several files: a partial answer.
 ///
-/// Refused are `NotOpen` where the handle is closed, `Syntax` at the first byte that is no UTF-8, and what `lanes_ask` refuses of the
+/// Refused are `NotOpen` if the handle is closed, `Syntax` at the first byte that is no UTF-8, and what `lanes_ask` refuses of the
 /// query.
 #[unsafe(no_mangle)]
 pub extern "C" fn lanes_partial(

@@ -33,7 +33,7 @@ fn answers_over(alloc: Global, store: &Store, queries: &[&[u8]]) -> Result<Joine
     Ok(answers)
 }
 
-/// The answers of the queries of a text over a file, and where each ends.
+/// The answers of the queries of a text over a file, and the place at which each ends.
 fn answered_all(
     alloc: Global,
     file: &[u8],
@@ -50,7 +50,7 @@ fn answered_all(
 }
 
 /// Answers several queries over a file that is opened once: the queries of a text, which has a line feed between each two. It gives the
-/// answers' texts, one after another; answer `i` ends at `ends[i]`, where there is room for all ends.
+/// answers' texts, one after another; answer `i` ends at `ends[i]`, if there is room for all ends.
 ///
 /// Refused are, in this order, the file's first fault, and the first query that `lanes_query` refuses; then the place has that query,
 /// from 0, next to the byte.

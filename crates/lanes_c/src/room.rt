@@ -4,7 +4,7 @@ ghost use Rattle.lanes_c.specs.Rooms.{filled, given_by, number_told, room_left, 
 
 use crate::fault::{Fault, Place};
 
-/// Puts bytes or numbers at a room's front where they fit, and else leaves the room as it is.
+/// Puts bytes or numbers at a room's front if they fit, and else leaves the room as it is.
 pub(crate) fn fill<T: Copy>(items: &[T], room: &mut [T])
     ensures { room.new ≡ filled items.now room.old }
 {
@@ -14,7 +14,7 @@ pub(crate) fn fill<T: Copy>(items: &[T], room: &mut [T])
     }
 }
 
-/// Tells a caller what a call gave: bytes, which are put into the room where they fit, with their length and 0; or a fault's number
+/// Tells a caller what a call gave: bytes, which are put into the room if they fit, with their length and 0; or a fault's number
 /// and place, with the length 0 and the room as it was.
 pub(crate) fn hand_out(
     given: Result<Vec<u8>, Fault>,

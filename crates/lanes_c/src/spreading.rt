@@ -30,7 +30,7 @@ fn share_file(alloc: Global, runs: &NameRuns, store: &Store, index: usize) -> Re
     taken(done, writer)
 }
 
-/// The files of the first shares, one after another, and where each of them ends.
+/// The files of the first shares, one after another, and the place at which each of them ends.
 fn share_files(
     alloc: Global,
     runs: &NameRuns,

@@ -27,7 +27,7 @@ fn copied(alloc: Global, bytes: &[u8]) -> Result<Vec<u8>, AllocError>
     Ok(copy)
 }
 
-/// The file that a command leaves: what it has written where something changed, and else the file that it was given.
+/// The file that a command leaves: what it has written if something changed, and else the file that it was given.
 pub(crate) fn left(
     alloc: Global,
     file: &[u8],
@@ -42,7 +42,7 @@ pub(crate) fn left(
     Ok(copied(alloc, file)?)
 }
 
-/// Bytes as a text; `Syntax` at the first byte that belongs to no character where they are none.
+/// Bytes as a text; `Syntax` at the first byte that belongs to no character if they are not a text.
 pub(crate) fn text_of(bytes: &[u8]) -> Result<&str, Fault>
     ensures text { IfOk result (λ text. (text.now ≡ bytes.now) × IsUtf8 bytes.now) }
     ensures fault { IfErr result (λ fault. NoText bytes.now fault) }

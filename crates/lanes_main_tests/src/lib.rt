@@ -1,4 +1,4 @@
-//! Tests of lanes_main: a run of steps, and scripts and files where a reader or a writer fails.
+//! Tests of lanes_main: a run of steps, and scripts and files if a reader or a writer fails.
 #![tactic(auto)]
 
 #[cfg(test)]

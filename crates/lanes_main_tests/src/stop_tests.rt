@@ -194,7 +194,7 @@ impl Ended {
 }
 
 impl Told {
-    /// How the call ends where its reader stops after so many bytes, and its writer after so many.
+    /// How the call ends if its reader stops after so many bytes, and its writer after so many.
     fn ended(&self, alloc: Global, readable: usize, writable: usize) -> Ended {
         let mut reader = Counted::new(Stop {
             inner: ONE_ROW.as_slice(),
@@ -227,7 +227,7 @@ impl Told {
         ended.is(Err(Refusal::WriteFault), (0, 1), front)
     }
 
-    /// Whether the call writes its text where neither stops.
+    /// Whether the call writes its text if neither stops.
     fn is_told(&self, alloc: Global) -> bool {
         let ended = self.ended(alloc, PLENTY, PLENTY);
         ended.is(Ok(()), (0, 0), self.text.as_bytes())

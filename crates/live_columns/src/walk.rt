@@ -1,6 +1,6 @@
 //! The walk over all vectors of a state to the live rows at which a condition is true.
 ghost use Rattle.std.specs.Prelude.{◌≡◌, ◌<◌, ◌≤◌, ◌+◌, ◌*◌, ◌^◌, ◌++◌, IfOk, OnOk, cond, sum_by, count_by};
-ghost use Rattle.query_eval.specs.Kept.{has_live, live_vectors_in, where_mentions};
+ghost use Rattle.query_eval.specs.Kept.{has_live, live_vectors, live_vectors_in, where_mentions};
 ghost use Rattle.query_eval.specs.Read.{IsSame};
 ghost use Rattle.query_eval.specs.Vector.{IsThere, batch_count, vector_of};
 ghost use Rattle.live_columns.specs.Chosen.{AreThere, IsChosen, rows_in, rows_where};
@@ -64,6 +64,8 @@ fn count_rows(vectors: &[KeptVector]) -> usize
 }
 
 /// The live rows at which a condition is true, in order of row name; without a condition all live rows.
+///
+/// Each mention of a column takes at most one pass over each of the column's vectors that has a live row.
 pub fn rows_where<C: Columns>(
     alloc: Global,
     columns: &mut C,
@@ -71,6 +73,7 @@ pub fn rows_where<C: Columns>(
 ) -> Result<ChosenRows, AllocError>
     ensures chosen { IfOk result (λ chosen. IsChosen (C.seen columns.old).state (rows_where (C.seen columns.old).table condition.now (C.seen columns.old).state) chosen) }
     ensures same { IsSame (C.seen columns.old) (C.seen columns.new) }
+    ensures passes { IfOk result (λ _. (C.seen columns.new).passes ≤ (C.seen columns.old).passes + where_mentions condition.now * live_vectors (C.seen columns.old).state) }
 {
     let mut vectors = Vec::new(alloc);
     for batch in 0..columns.batches() {

@@ -8,7 +8,6 @@ mod lock;
 mod making;
 mod names;
 mod patience;
-mod record;
 mod sweeping;
 mod system;
 mod temporary;

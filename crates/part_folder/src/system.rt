@@ -1,16 +1,15 @@
 //! A folder of the operating system, as the protocol of parts asks for it. Each method makes its call, and then notes it with its
 //! answer.
 ghost use Rattle.std.specs.Prelude.{◌≡◌, ◌≤◌, [], IfOk, length};
-ghost use Rattle.part_folder.specs.Note.{calls_of};
+ghost use Rattle.folder_protocol.specs.Note.{calls_of};
 
 use crate::fault::FolderFault;
 use crate::keeping::open_plain;
 use crate::listing::list_locked;
 use crate::lock::FolderLock;
 use crate::names::{is_link, path_in};
-use crate::record::Record;
 use crate::temporary::{is_ours, link_or_rename};
-use folder_protocol::Folder;
+use folder_protocol::{Folder, Record};
 use std::alloc::Global;
 use std::fs::{self, File, Files, OpenOptions};
 use std::io::{self, ErrorKind, Read, Write};

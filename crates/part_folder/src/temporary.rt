@@ -50,7 +50,7 @@ impl<'r, R: Files<File = File> + RandomSource + AllocGlobal> Temporary<'r, R> {
     }
 
     /// Gives the file a name of its folder, of which this is the path, unless another file has it. The temporary's name goes. After a
-    /// fault neither name is there, unless the system says of a change that it failed and has made it.
+    /// fault neither name is there, unless the system reported a failure for a change that it made.
     pub fn place(self, path: &str) -> io::Result<Placed> {
         let Temporary {
             rt,

@@ -15,7 +15,7 @@ mod shown_text;
 mod store_partial_answer;
 mod strays;
 
-pub use combining::combine_next;
+pub use combining::{combine_next, combine_with};
 pub use coverage::{inspect_partial_answer, inspect_summary};
 pub use expectation_error::ExpectationError;
 pub use expecting::write_expected_answer;

@@ -6,6 +6,7 @@ use crate::file_kind::{of_no_csv, of_no_file};
 use crate::meaning::meaning_of;
 use crate::quoted::{Printable, Quoted};
 use crate::reason::{unread, unwritten};
+use crate::table_fault::TableFault;
 use crate::tables::{Names, Table};
 use crate::text_fault::Text;
 use query_parser::Expected;
@@ -53,6 +54,8 @@ pub enum Knowledge<'a> {
     },
     /// The table that rows are for.
     Rows(&'a Schema),
+    /// What is wrong with a table that is to be made.
+    NoTable(TableFault<'a>),
     /// The other input that has a batch of the same name.
     Other(&'a str),
     /// That the input had a batch of the same name before.
@@ -256,6 +259,9 @@ impl<'a> Sentence<'a> {
             }
             (CommandRefusal::Named(Refusal::Conflict(name)), Knowledge::Held) => {
                 write!(f, "this has batch {name} already, with other rows")?;
+            }
+            (CommandRefusal::Named(Refusal::BadSchema), Knowledge::NoTable(fault)) => {
+                write!(f, "{fault}")?;
             }
             (CommandRefusal::Named(Refusal::NoSuchColumn(_)), Knowledge::Name { name, schema }) => {
                 let name = Quoted(name.as_bytes());

@@ -37,6 +37,20 @@ enum Call {
     Inspect,
 }
 
+/// All of them.
+const CALLS: [Call; 10] = [
+    Call::Import,
+    Call::Delete,
+    Call::DeleteRows,
+    Call::Forget,
+    Call::Apply,
+    Call::Summary,
+    Call::Offer,
+    Call::Merge,
+    Call::Dump,
+    Call::Inspect,
+];
+
 /// Makes a call over a file.
 fn called<'a>(
     alloc: Global,
@@ -163,103 +177,19 @@ fn stops_at_writes(alloc: Global, call: Call) -> Result<(), Fail> {
 }
 
 #[test]
-fn an_import_stops_at_each_read(rt: HostRuntime) -> Result<(), Fail> {
-    stops_at_reads(rt.alloc(), Call::Import)
+fn each_call_stops_at_each_read(rt: HostRuntime) -> Result<(), Fail> {
+    for call in CALLS {
+        stops_at_reads(rt.alloc(), call)?;
+    }
+    Ok(())
 }
 
 #[test]
-fn an_import_stops_at_each_write(rt: HostRuntime) -> Result<(), Fail> {
-    stops_at_writes(rt.alloc(), Call::Import)
-}
-
-#[test]
-fn a_delete_stops_at_each_read(rt: HostRuntime) -> Result<(), Fail> {
-    stops_at_reads(rt.alloc(), Call::Delete)
-}
-
-#[test]
-fn a_delete_stops_at_each_write(rt: HostRuntime) -> Result<(), Fail> {
-    stops_at_writes(rt.alloc(), Call::Delete)
-}
-
-#[test]
-fn a_delete_of_rows_stops_at_each_read(rt: HostRuntime) -> Result<(), Fail> {
-    stops_at_reads(rt.alloc(), Call::DeleteRows)
-}
-
-#[test]
-fn a_delete_of_rows_stops_at_each_write(rt: HostRuntime) -> Result<(), Fail> {
-    stops_at_writes(rt.alloc(), Call::DeleteRows)
-}
-
-#[test]
-fn a_forget_stops_at_each_read(rt: HostRuntime) -> Result<(), Fail> {
-    stops_at_reads(rt.alloc(), Call::Forget)
-}
-
-#[test]
-fn a_forget_stops_at_each_write(rt: HostRuntime) -> Result<(), Fail> {
-    stops_at_writes(rt.alloc(), Call::Forget)
-}
-
-#[test]
-fn an_apply_stops_at_each_read(rt: HostRuntime) -> Result<(), Fail> {
-    stops_at_reads(rt.alloc(), Call::Apply)
-}
-
-#[test]
-fn an_apply_stops_at_each_write(rt: HostRuntime) -> Result<(), Fail> {
-    stops_at_writes(rt.alloc(), Call::Apply)
-}
-
-#[test]
-fn a_summary_stops_at_each_read(rt: HostRuntime) -> Result<(), Fail> {
-    stops_at_reads(rt.alloc(), Call::Summary)
-}
-
-#[test]
-fn a_summary_stops_at_each_write(rt: HostRuntime) -> Result<(), Fail> {
-    stops_at_writes(rt.alloc(), Call::Summary)
-}
-
-#[test]
-fn an_offer_stops_at_each_read(rt: HostRuntime) -> Result<(), Fail> {
-    stops_at_reads(rt.alloc(), Call::Offer)
-}
-
-#[test]
-fn an_offer_stops_at_each_write(rt: HostRuntime) -> Result<(), Fail> {
-    stops_at_writes(rt.alloc(), Call::Offer)
-}
-
-#[test]
-fn a_merge_stops_at_each_read(rt: HostRuntime) -> Result<(), Fail> {
-    stops_at_reads(rt.alloc(), Call::Merge)
-}
-
-#[test]
-fn a_merge_stops_at_each_write(rt: HostRuntime) -> Result<(), Fail> {
-    stops_at_writes(rt.alloc(), Call::Merge)
-}
-
-#[test]
-fn a_dump_stops_at_each_read(rt: HostRuntime) -> Result<(), Fail> {
-    stops_at_reads(rt.alloc(), Call::Dump)
-}
-
-#[test]
-fn a_dump_stops_at_each_write(rt: HostRuntime) -> Result<(), Fail> {
-    stops_at_writes(rt.alloc(), Call::Dump)
-}
-
-#[test]
-fn an_inspection_stops_at_each_read(rt: HostRuntime) -> Result<(), Fail> {
-    stops_at_reads(rt.alloc(), Call::Inspect)
-}
-
-#[test]
-fn an_inspection_stops_at_each_write(rt: HostRuntime) -> Result<(), Fail> {
-    stops_at_writes(rt.alloc(), Call::Inspect)
+fn each_call_stops_at_each_write(rt: HostRuntime) -> Result<(), Fail> {
+    for call in CALLS {
+        stops_at_writes(rt.alloc(), call)?;
+    }
+    Ok(())
 }
 
 #[test]

@@ -17,7 +17,7 @@ use cluster_history::{REPLICA_LIMIT, Sql, Step};
 use std::alloc::Global;
 use table_model::{Refusal, RowName};
 
-/// The command that a line is, without its line feed; `BadLine` if it is none.
+/// The command that a line is, without its line feed; `BadLine` if it is not a command.
 ///
 /// If memory runs out, `Memory` may come in place of either, but only for a line of printable bytes that begins with `table `,
 /// `append `, `insert `, `delete where `, `open ` or `query `. Reading any other line takes no memory.

@@ -12,42 +12,6 @@ use test_support::{agree, growth_refused};
 /// The most bytes that a segment of these tests has.
 const ROOM: usize = 512;
 
-/// The bytes of two rows, 7 and null: the null mask, FOR of reference 7 with packed values of one bit, all 0.
-fn frame_bytes() -> [u8; 263] {
-    let mut bytes = [0; 263];
-    bytes[0] = 1;
-    bytes[1] = 2;
-    bytes[130] = 1;
-    bytes[133] = 7;
-    bytes
-}
-
-/// The bytes of two rows, 7 and null: the null mask, DELTA of least delta 0, a base of 7 in lane 0, and packed values of one bit,
-/// all 0.
-fn delta_bytes() -> [u8; 391] {
-    let mut bytes = [0; 391];
-    bytes[0] = 1;
-    bytes[1] = 2;
-    bytes[129] = 1;
-    bytes[130] = 1;
-    bytes[135] = 7;
-    bytes
-}
-
-/// The bytes of two rows, 7 and null: the null mask, RLE of 7 and from row 1 on 8.
-fn run_bytes() -> [u8; 265] {
-    let mut bytes = [0; 265];
-    bytes[0] = 1;
-    bytes[1] = 2;
-    bytes[129] = 2;
-    bytes[130] = 1;
-    bytes[131] = 2;
-    bytes[133] = 2;
-    bytes[261] = 7;
-    bytes[263] = 8;
-    bytes
-}
-
 /// The bytes of two rows, 7 and null: the null mask, DICT of 7 and 8 with codes of one bit, all 0.
 fn dictionary_bytes() -> [u8; 265] {
     let mut bytes = [0; 265];
@@ -94,21 +58,6 @@ fn is_read(alloc: Global, column_type: ColType, bytes: &[u8]) -> Result<(), Fail
         }
     }
     Ok(())
-}
-
-#[test]
-fn a_refused_read_of_a_frame_gives_no_segment(rt: HostRuntime) -> Result<(), Fail> {
-    is_read(rt.alloc(), ColType::SmallInt, &frame_bytes())
-}
-
-#[test]
-fn a_refused_read_of_deltas_gives_no_segment(rt: HostRuntime) -> Result<(), Fail> {
-    is_read(rt.alloc(), ColType::SmallInt, &delta_bytes())
-}
-
-#[test]
-fn a_refused_read_of_runs_gives_no_segment(rt: HostRuntime) -> Result<(), Fail> {
-    is_read(rt.alloc(), ColType::SmallInt, &run_bytes())
 }
 
 #[test]

@@ -4,4 +4,6 @@
 #[cfg(test)]
 mod passes_tests;
 #[cfg(test)]
+mod readme_example;
+#[cfg(test)]
 mod refused_tests;

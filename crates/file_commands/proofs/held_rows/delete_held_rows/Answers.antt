@@ -1,4 +1,4 @@
-use Rattle.std.specs.Prelude.{◌≢◌, ℕ, List, ◌==◌, not, Ok}
+use Rattle.std.specs.Prelude.{◌≢◌, ℕ, List, [], ◌==◌, not, Ok}
 use Rattle.std.proofs.Common.{ap, sym, refl, ◌∙◌, Bor}
 use Rattle.std.proofs.lemmas.Result.{err_from_is_err_and}
 use Rattle.replica_store.specs.Replica.{Replica}
@@ -7,6 +7,7 @@ use Rattle.file_commands.specs.declared.held_rows.HeldRows.{HeldRows}
 use Rattle.file_replacing.proofs.LongerNames.{longer_is_other}
 use Rattle.file_replacing.proofs.Locks.{stays_old}
 use Rattle.file_commands.proofs.CrashProofs.{leaves, refused_so, any_at, answered_at, read_then_left}
+use Rattle.file_commands.proofs.Whys.{unread_why, over_why, fault_why, read_then_gives}
 use Rattle.file_commands.proofs.held_rows.delete_held_rows.Goals as goal
 
 pub returns-in_err-old-clause-any_moment : goal.returns-in_err-old-clause-any_moment
@@ -31,8 +32,33 @@ returns-in-Ok-clause-answered g c =
 
 pub returns-clause-any_moment : goal.returns-clause-any_moment
 returns-clause-any_moment g c =
-    leaves (λ (r : Replica). deleted_if_held r c.args.first c.args.last) _ _ (longer_is_other _ _ _ _ c.args.place.now.longer refl refl) _ _ (read_then_left _ _ _ _ _ _ c.in_ok-old.ensures.read c.leave.ensures)
+    leaves (λ (r : Replica). deleted_if_held r c.args.first c.args.last) _ _ (longer_is_other _ _ _ _ c.args.place.now.longer refl refl) _ _ (read_then_left _ _ _ _ _ _ c.in_ok-old.ensures.read c.leave.ensures.locks)
 
 pub returns-clause-refused : goal.returns-clause-refused
 returns-clause-refused g c =
-    λ other. stays_old _ _ (longer_is_other _ _ _ _ c.args.place.now.longer refl refl) _ _ (read_then_left _ _ _ _ _ _ c.in_ok-old.ensures.read c.leave.ensures)
+    λ other. stays_old _ _ (longer_is_other _ _ _ _ c.args.place.now.longer refl refl) _ _ (read_then_left _ _ _ _ _ _ c.in_ok-old.ensures.read c.leave.ensures.locks)
+
+pub returns-in_err-old-clause-why : goal.returns-in_err-old-clause-why
+returns-in_err-old-clause-why g c =
+    let p = err_from_is_err_and c.from_residual.result c.from_residual.ensures.1 in
+    rw (p.1, p.2) (unread_why _ _ [] _ (λ (r : Replica). deleted_if_held r c.args.first c.args.last) _ c.in_err-old.ensures.why)
+
+pub returns-in_err-left-in-Ok-clause-why : goal.returns-in_err-left-in-Ok-clause-why
+returns-in_err-left-in-Ok-clause-why g c =
+    let p = err_from_is_err_and c.from_residual-in_err-left-in-Ok.result c.from_residual-in_err-left-in-Ok.ensures.1 in
+    rw (p.1, p.2) (fault_why _ _ _ _ (λ (r : Replica). deleted_if_held r c.args.first c.args.last) _ _ c.in_ok-old.ensures.read c.in_err-left-in-Ok.ensures.fault.0 c.in_err-left-in-Ok.ensures.fault.2)
+
+pub returns-clause-why : goal.returns-clause-why
+returns-clause-why g c = over_why _ _ _ _ (λ (r : Replica). deleted_if_held r c.args.first c.args.last) _ _ _ _ c.in_ok-old.ensures.read c.as_slice.ensures.value c.leave.ensures.locks.1 c.in-Err.ensures
+
+pub returns-in_err-old-clause-own : goal.returns-in_err-old-clause-own
+returns-in_err-old-clause-own g c = c.in_err-old.ensures.own
+
+pub returns-in_err-left-in-Ok-clause-own : goal.returns-in_err-left-in-Ok-clause-own
+returns-in_err-left-in-Ok-clause-own g c = read_then_gives _ _ _ _ _ _ c.in_ok-old.ensures.read c.finish.ensures.own
+
+pub returns-in-Ok-clause-own : goal.returns-in-Ok-clause-own
+returns-in-Ok-clause-own g c = read_then_gives _ _ _ _ _ _ c.in_ok-old.ensures.read c.finish.ensures.own
+
+pub returns-clause-own : goal.returns-clause-own
+returns-clause-own g c = read_then_gives _ _ _ _ _ _ c.in_ok-old.ensures.read c.leave.ensures.own

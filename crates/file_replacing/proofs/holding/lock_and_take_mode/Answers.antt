@@ -1,5 +1,6 @@
 use Rattle.std.proofs.Common.{refl}
 use Rattle.file_replacing.proofs.LockCalls.{more}
+use Rattle.file_replacing.proofs.Owning.{gets_removed}
 use Rattle.file_replacing.proofs.holding.lock_and_take_mode.Goals as goal
 
 pub returns-then-is_ok-clause-held : goal.returns-then-is_ok-clause-held
@@ -7,3 +8,6 @@ returns-then-is_ok-clause-held g c = c.in_ok-wait.ensures.held c.args.name.now c
 
 pub returns-clause-locks : goal.returns-clause-locks
 returns-clause-locks g c = more c.args.lock.now _ _ _ _ c.in_ok-wait.ensures.locks c.remove.ensures refl
+
+pub returns-clause-own : goal.returns-clause-own
+returns-clause-own g c = gets_removed c.args.lock.now _ _ _ _ c.in_ok-wait.ensures.gets c.remove.ensures

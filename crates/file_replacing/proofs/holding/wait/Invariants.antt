@@ -1,6 +1,12 @@
 use Rattle.file_replacing.specs.Locking.{OnlyLocks}
+use Rattle.file_replacing.specs.Owning.{OwnsAll}
 use Rattle.file_replacing.proofs.holding.wait.Given as goal
 
--- the lock alone was touched so far
+-- the lock alone was touched so far, and removed only by who had it
 abbrev pub invariant-loop : goal.invariant-loop
-invariant-loop g l = OnlyLocks l.lock (g.F.Folder.history l.fn.folder) (g.F.Folder.history l.folder)
+invariant-loop g l =
+    let history = g.F.Folder.history in
+    record {
+      locks : OnlyLocks l.lock (history l.fn.folder) (history l.folder);
+      own : OwnsAll l.lock (history l.fn.folder) (history l.folder);
+    }

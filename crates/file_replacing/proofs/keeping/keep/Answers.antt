@@ -1,10 +1,11 @@
-use Rattle.std.proofs.Common.{List, ℕ, OnOk, refl, ◌∙◌}
+use Rattle.std.proofs.Common.{List, ℕ, OnOk, refl}
 use Rattle.std.specs.Result.{is_ok}
 use Rattle.file_replacing.specs.Event.{Removed}
-use Rattle.file_replacing.specs.Locking.{OnlyKeeps}
+use Rattle.file_replacing.specs.Owning.{GivesBack}
 use Rattle.file_replacing.specs.Safe.{StaysOld, OnlyOurs, StaysKept}
 use Rattle.file_replacing.specs.Whole.{StaysOnDisk}
 use Rattle.file_replacing.proofs.KeepCalls.{more, kept_ok, failed_then}
+use Rattle.file_replacing.proofs.Owning.{removes_own}
 use Rattle.file_replacing.proofs.Locks.{keeps_old, keeps_kept, keeps_ours}
 use Rattle.file_replacing.proofs.LongerNames.{longer_is_other, along}
 use Rattle.file_replacing.proofs.keeping.keep.Goals as goal
@@ -38,3 +39,8 @@ returns-clause-kept g c =
 
 pub returns-clause-cause : goal.returns-clause-cause
 returns-clause-cause g c = failed_then c.sync_both-outcome.result _ _ _ _ c.remove.ensures c.sync_both-outcome.ensures.cause
+
+pub returns-clause-own : goal.returns-clause-own
+returns-clause-own g c =
+    along (λ (l n : List ℕ). GivesBack l (g.F.Folder.history c.args.folder.now) (g.F.Folder.history c.remove.new.self)) c.lock.result.now _ c.name.result.now _ c.lock.ensures c.name.ensures
+    (removes_own c.lock.result.now _ _ _ _ (c.sync_both-outcome.ensures.own c.lock.result.now) c.remove.ensures)

@@ -1,7 +1,9 @@
 use Rattle.std.proofs.Common.{[], ◌∷◌, true, List, refl, ◌∙◌, ap}
 use Rattle.std.specs.Result.{is_ok}
 use Rattle.file_replacing.specs.Event.{Event, Settled, SyncedFile}
+use Rattle.file_replacing.specs.Owning.{OwnLock}
 use Rattle.file_replacing.proofs.Steps.{on_err}
+use Rattle.file_replacing.proofs.Owning.{owns_one, owns_more}
 use Rattle.file_replacing.proofs.Failing.{fails_now, fails_later}
 use Rattle.file_replacing.proofs.KeepCalls.{one, more, ends_settled}
 use Rattle.file_replacing.proofs.keeping.sync_both.Goals as goal
@@ -27,3 +29,14 @@ returns-clause-keeps g c = λ lock.
 pub returns-clause-cause : goal.returns-clause-cause
 returns-clause-cause g c =
     ends_settled c.settle.result _ _ _ (SyncedFile c.args.name.now true ∷ []) (c.in_ok-open_folder.ensures ∙ c.in_ok-sync_file.ensures) c.settle.ensures
+
+pub returns-in_err-sync_file-clause-own : goal.returns-in_err-sync_file-clause-own
+returns-in_err-sync_file-clause-own g c = λ lock. owns_one lock _ _ _ OwnLock c.in_err-sync_file.ensures tt
+
+pub returns-in_err-open_folder-clause-own : goal.returns-in_err-open_folder-clause-own
+returns-in_err-open_folder-clause-own g c = λ lock. owns_more lock _ _ _ _ _ _ (owns_one lock _ _ _ OwnLock c.in_ok-sync_file.ensures tt) c.in_err-open_folder.ensures tt
+
+pub returns-clause-own : goal.returns-clause-own
+returns-clause-own g c = λ lock.
+    owns_more lock _ _ _ _ _ _ (owns_one lock _ _ _ OwnLock c.in_ok-sync_file.ensures tt)
+    (c.settle.ensures ∙ ap (λ (h : List Event). Settled (is_ok c.settle.result) ∷ h) c.in_ok-open_folder.ensures) tt

@@ -1,15 +1,11 @@
 use Rattle.std.proofs.Common.{ℕ, List, Option, Some, None, sym, subst}
 use Rattle.file_replacing.specs.Disk.{Disk, MayHold, MayLeave, Reads}
 use Rattle.file_replacing.specs.Safe.{Restarts}
-use Rattle.file_replacing.proofs.Kept.{kept_restart}
 use Rattle.file_replacing.proofs.laws.restarts.Goals as goal
 
 reads : (name : List ℕ) (d e : Disk) → Restarts d e → (c : Option (List ℕ)) → Reads e name c → MayLeave d name c
 reads name d e restarts None none = (e.names, restarts.names, none)
 reads name d e restarts (Some bytes) (file, at, is) = (e.names, restarts.names, (file, at, subst (λ (b : List ℕ). MayHold d file b) (sym is) (restarts.contents file)))
 
-pub returns-clause-reads : goal.returns-clause-reads
-returns-clause-reads c = λ name d e r x h. reads name d e r x h
-
-pub returns-clause-kept : goal.returns-clause-kept
-returns-clause-kept c = λ lock name d e apart kept r. kept_restart lock name apart d e kept r
+pub returns : goal.returns
+returns c = λ name d e r x h. reads name d e r x h

@@ -8,6 +8,7 @@ use Rattle.file_replacing.specs.Safe.{LeavesNoLock}
 use Rattle.file_replacing.specs.Failed.{HasFailed}
 use Rattle.file_replacing.proofs.Steps.{goes_on, joins, removes, answered_in_turn, gone_in_turn}
 use Rattle.file_replacing.proofs.NoLock.{no_lock_after}
+use Rattle.file_replacing.proofs.Owning.{then_owns, removes_own}
 use Rattle.file_replacing.proofs.Failing.{fails_later, failed_before}
 use Rattle.file_replacing.proofs.replacing.exchange.Goals as goal
 
@@ -61,3 +62,9 @@ returns-in-Err-clause-unchanged g c =
 
 pub returns-in-Err-clause-cause : goal.returns-in-Err-clause-cause
 returns-in-Err-clause-cause g c = failed_before _ _ _ _ c.remove.ensures c.in-Err.ensures.cause
+
+pub returns-in-Ok-clause-own : goal.returns-in-Ok-clause-own
+returns-in-Ok-clause-own g c = then_owns c.args.lock.now _ _ _ _ _ _ c.fill.ensures.own c.put.ensures.own
+
+pub returns-in-Err-clause-own : goal.returns-in-Err-clause-own
+returns-in-Err-clause-own g c = removes_own c.args.lock.now _ _ _ _ c.fill.ensures.own c.remove.ensures

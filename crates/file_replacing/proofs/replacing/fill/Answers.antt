@@ -1,6 +1,8 @@
 use Rattle.std.proofs.Common.{refl, []}
 use Rattle.file_replacing.specs.Phase.{Holding}
+use Rattle.file_replacing.specs.Owning.{OwnLock}
 use Rattle.file_replacing.proofs.Steps.{starts, stays, goes_on, joins, back, joins_back, on_err, ends_ok, ends_err}
+use Rattle.file_replacing.proofs.Owning.{owns_one, owns_more, owns_still, then_owns}
 use Rattle.file_replacing.proofs.Failing.{fails_now, fails_later, ends_failed}
 use Rattle.file_replacing.proofs.replacing.fill.Goals as goal
 
@@ -52,3 +54,19 @@ returns-clause-cause g c =
     let first = goes_on c.args.lock.now c.args.name.now c.args.bytes.now _ _ _ _ _ _ _ (stays _ _ _ _ _ Holding c.in_ok-open_folder.ensures) c.in_ok-empty.ensures refl in
     let second = joins c.args.lock.now c.args.name.now c.args.bytes.now _ _ _ _ _ _ first c.in_ok-write_all.ensures.ok in
     ends_failed c.sync.result _ _ _ second.0 second.1 c.sync.ensures
+
+pub returns-in_err-open_folder-clause-own : goal.returns-in_err-open_folder-clause-own
+returns-in_err-open_folder-clause-own g c = owns_one c.args.lock.now _ _ _ OwnLock c.in_err-open_folder.ensures tt
+
+pub returns-in_err-empty-clause-own : goal.returns-in_err-empty-clause-own
+returns-in_err-empty-clause-own g c = owns_more c.args.lock.now _ _ _ _ _ _ (owns_still c.args.lock.now _ _ c.in_ok-open_folder.ensures) c.in_err-empty.ensures refl
+
+pub returns-in_err-write_all-clause-own : goal.returns-in_err-write_all-clause-own
+returns-in_err-write_all-clause-own g c =
+    let first = owns_more c.args.lock.now _ _ _ _ _ _ (owns_still c.args.lock.now _ _ c.in_ok-open_folder.ensures) c.in_ok-empty.ensures refl in
+    then_owns c.args.lock.now _ _ _ _ _ _ first c.in_err-write_all.ensures.own
+
+pub returns-clause-own : goal.returns-clause-own
+returns-clause-own g c =
+    let first = owns_more c.args.lock.now _ _ _ _ _ _ (owns_still c.args.lock.now _ _ c.in_ok-open_folder.ensures) c.in_ok-empty.ensures refl in
+    owns_more c.args.lock.now _ _ _ _ _ _ (then_owns c.args.lock.now _ _ _ _ _ _ first c.in_ok-write_all.ensures.own) c.sync.ensures refl

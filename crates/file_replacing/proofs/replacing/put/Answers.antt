@@ -4,6 +4,7 @@ use Rattle.file_replacing.specs.Phase.{Ready, InPlace, Unsure, Back, GoneUnsure}
 use Rattle.std.specs.Result.{is_ok}
 use Rattle.file_replacing.proofs.Steps.{starts, goes_on, renames, removes, compares, gone_unsure_in_turn, unsure_in_turn}
 use Rattle.file_replacing.proofs.NoLock.{no_lock}
+use Rattle.file_replacing.proofs.Owning.{renames_own, takes_back, lets_go}
 use Rattle.file_replacing.proofs.Failing.{fails_now, failed_before}
 use Rattle.file_replacing.proofs.replacing.put.Goals as goal
 
@@ -43,3 +44,15 @@ returns-else-is_named-clause-err g c =
 pub returns-else-is_named-clause-cause : goal.returns-else-is_named-clause-cause
 returns-else-is_named-clause-cause g c =
     failed_before _ _ _ _ c.is_named.ensures (fails_now _ _ _ c.in-Err.ensures refl)
+
+pub returns-in-Ok-settle-clause-own : goal.returns-in-Ok-settle-clause-own
+returns-in-Ok-settle-clause-own g c = renames_own c.args.lock.now c.args.name.now _ _ _ _ _ c.in-Ok.ensures c.in-Ok-settle.ensures
+
+pub returns-in-Err-settle-clause-own : goal.returns-in-Err-settle-clause-own
+returns-in-Err-settle-clause-own g c = renames_own c.args.lock.now c.args.name.now _ _ _ _ _ c.in-Ok.ensures c.in-Err-settle.ensures
+
+pub returns-then-is_named-clause-own : goal.returns-then-is_named-clause-own
+returns-then-is_named-clause-own g c = takes_back c.args.lock.now c.args.name.now _ _ _ _ _ _ _ c.in-Err.ensures c.is_named.ensures c.remove.ensures c.if-is_named.true
+
+pub returns-else-is_named-clause-own : goal.returns-else-is_named-clause-own
+returns-else-is_named-clause-own g c = lets_go c.args.lock.now c.args.name.now _ _ _ _ _ c.in-Err.ensures c.is_named.ensures c.if-is_named.false

@@ -6,6 +6,7 @@ use Rattle.file_replacing.specs.declared.outcome.Replaced.TheVariants.{Synced, U
 use Rattle.file_replacing.specs.Event.{Event}
 use Rattle.file_replacing.specs.Phase.{Holding, Goes}
 use Rattle.file_replacing.specs.Outcome.{phase_of}
+use Rattle.file_replacing.specs.Owning.{GivesBack}
 use Rattle.file_replacing.specs.Safe.{OldOrNew, IsNew, IsOld, IsInPlace, LeavesNoLock, OnlyOurs, StaysKept}
 use Rattle.file_replacing.proofs.Sound.{old_or_new, is_new, is_old, is_in_place, new_in_place}
 use Rattle.file_replacing.proofs.LongerNames.{longer_is_other, along}
@@ -62,3 +63,7 @@ returns-clause-kept g c =
     let apart = longer_is_other _ _ _ _ c.args.place.now.longer c.lock.ensures c.name.ensures in
     let t = c.exchange.ensures.in_turn in
     along (λ (l n : List ℕ). StaysKept l n (g.F.Folder.history c.args.folder.now) (g.F.Folder.history c.exchange.new.folder)) c.lock.result.now _ c.name.result.now _ c.lock.ensures c.name.ensures (stays_kept c.lock.result.now c.name.result.now c.args.bytes.now _ _ t.0 t.1 t.2 apart)
+
+pub returns-clause-own : goal.returns-clause-own
+returns-clause-own g c =
+    along (λ (l n : List ℕ). GivesBack l (g.F.Folder.history c.args.folder.now) (g.F.Folder.history c.exchange.new.folder)) c.lock.result.now _ c.name.result.now _ c.lock.ensures c.name.ensures c.exchange.ensures.own

@@ -1,5 +1,6 @@
 use Rattle.std.proofs.Common.{length, ◌-◌, ◌≤◌, take, []}
 use Rattle.file_replacing.specs.Phase.{Filled, Goes}
+use Rattle.file_replacing.specs.Owning.{OwnLock, Owns}
 use Rattle.file_replacing.proofs.replacing.write_all.Given as goal
 
 -- what was written so far
@@ -9,6 +10,7 @@ invariant-loop-done g l =
     record {
       within : l.done ≤ length l.bytes;
       told : Goes l.lock l.name l.bytes (history l.fn.folder) (Filled []) (history l.folder) (Filled (take l.done l.bytes));
+      owned : Owns l.lock (history l.fn.folder) OwnLock (history l.folder) OwnLock;
     }
 
 abbrev pub decreases-loop-done : goal.decreases-loop-done

@@ -1,6 +1,8 @@
-use Rattle.std.proofs.Common.{refl}
+use Rattle.std.proofs.Common.{refl, subst, map}
+use Rattle.std.specs.String.{string_bytes}
 use Rattle.folder_history.specs.Call.{Exclusive, Began}
-use Rattle.folder_protocol.specs.Causes.{Fails}
+use Rattle.folder_history.specs.Disk.{Among}
+use Rattle.folder_protocol.specs.Causes.{Fails, Lacks}
 use Rattle.folder_protocol.proofs.Causing.{follows_none, follows_on, has_now, has_later, on_err}
 use Rattle.folder_protocol.proofs.Lines.{starts, goes_on}
 use Rattle.folder_protocol.proofs.replacing.are_there.Goals as goal
@@ -22,3 +24,9 @@ returns-in_err-listed-clause-follows g c = follows_on _ _ _ _ (follows_on _ _ _ 
 
 pub returns-clause-follows : goal.returns-clause-follows
 returns-clause-follows g c = follows_on _ _ _ _ (follows_on _ _ _ Began (follows_none _) refl) c.in_ok-listed.ensures
+
+pub returns-clause-lacking : goal.returns-clause-lacking
+returns-clause-lacking g c = λ no.
+    let lacked = c.has_each.ensures no in
+    has_later (Lacks (map string_bytes c.args.names.now)) _ _ _ (follows_on _ _ _ Began (follows_none _) refl)
+    (has_now (Lacks (map string_bytes c.args.names.now)) _ _ _ c.in_ok-listed.ensures (lacked.0, lacked.1, subst (λ l. Among lacked.0 (map string_bytes l) → ⊥) c.as_slice.ensures.value lacked.2))

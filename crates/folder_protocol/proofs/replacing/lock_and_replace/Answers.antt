@@ -1,9 +1,9 @@
-use Rattle.std.proofs.Common.{◌≡◌, Some, [], ◌∷◌, inl, true, refl, ap, map}
+use Rattle.std.proofs.Common.{◌≡◌, Some, None, [], ◌∷◌, inl, true, refl, ap, map}
 use Rattle.std.specs.String.{string_bytes}
 use Rattle.folder_history.specs.Call.{Locked, Unlocked, Exclusive, lock_of}
-use Rattle.folder_protocol.specs.Causes.{Fails}
+use Rattle.folder_protocol.specs.Causes.{Fails, Lacks}
 use Rattle.folder_protocol.specs.declared.putting.Outcome.TheVariants.{OnDisk}
-use Rattle.folder_protocol.proofs.Causing.{follows_none, follows_on, has_now, has_before, looked_later, looked_before, fails_later, fails_before}
+use Rattle.folder_protocol.proofs.Causing.{follows_none, follows_on, has_now, has_before, looked_later, looked_before, fails_later, fails_before, cause_between}
 use Rattle.folder_protocol.proofs.Lines.{starts, goes_on, joins, all_joined_later, answer_between, ready_locked}
 use Rattle.folder_protocol.proofs.replacing.lock_and_replace.Goals as goal
 
@@ -33,3 +33,8 @@ returns-in-Err-clause-in_turn g c = λ parts named temp ready joined.
 
 pub returns-in-Err-clause-fails : goal.returns-in-Err-clause-fails
 returns-in-Err-clause-fails g c = has_before Fails _ _ _ (follows_on _ _ _ _ (follows_none _) c.remove.ensures) (has_now Fails _ _ _ c.in-Err.ensures refl)
+
+pub returns-in-Ok-clause-overtaken : goal.returns-in-Ok-clause-overtaken
+returns-in-Ok-clause-overtaken g c =
+    cause_between c.look_and_replace-outcome.result (λ answer. answer ≡ None) (Lacks (map string_bytes c.args.joined.now)) _ _ _ _ (follows_on _ _ _ _ (follows_none _) c.in-Ok.ensures)
+    (follows_on _ _ _ _ (follows_none _) c.unlock.ensures) c.look_and_replace-outcome.ensures.overtaken

@@ -1,6 +1,6 @@
-use Rattle.std.proofs.Common.{◌≡◌, Some, [], inl, refl, ◌∙◌, map}
+use Rattle.std.proofs.Common.{rules, ◌≡◌, Some, [], inl, refl, ◌∙◌, map}
 use Rattle.std.specs.String.{string_bytes}
-use Rattle.folder_protocol.specs.Causes.{Fails}
+use Rattle.folder_protocol.specs.Causes.{Fails, Lacks}
 use Rattle.folder_protocol.specs.declared.putting.Outcome.TheVariants.{OnDisk}
 use Rattle.folder_protocol.proofs.Causing.{follows_none, follows_on, has_before, looked_later, fails_later}
 use Rattle.folder_protocol.proofs.Lines.{goes_on, joins, all_joined_later, answer_between}
@@ -33,3 +33,6 @@ returns-in-Err-clause-in_turn g c = λ parts named temp ready lock joined.
 
 pub returns-in-Err-clause-fails : goal.returns-in-Err-clause-fails
 returns-in-Err-clause-fails g c = has_before Fails _ _ _ (follows_on _ _ _ _ (follows_none _) c.remove-in-Err.ensures) c.in-Err.ensures.fails
+
+pub returns-in-Ok-false-clause-overtaken : goal.returns-in-Ok-false-clause-overtaken
+returns-in-Ok-false-clause-overtaken g c = λ _. has_before (Lacks (map string_bytes c.args.joined.now)) _ _ _ (follows_on _ _ _ _ (follows_none _) c.remove.ensures) (c.in-Ok-false.ensures.lacking (search rules))

@@ -1,8 +1,8 @@
-use Rattle.std.proofs.Common.{◌≡◌, Some, [], inl, refl, map}
+use Rattle.std.proofs.Common.{◌≡◌, Some, None, [], inl, refl, map}
 use Rattle.std.specs.String.{string_bytes}
-use Rattle.folder_protocol.specs.Causes.{Fails}
+use Rattle.folder_protocol.specs.Causes.{Fails, Lacks}
 use Rattle.folder_protocol.specs.declared.putting.Outcome.TheVariants.{OnDisk}
-use Rattle.folder_protocol.proofs.Causing.{follows_none, follows_on, has_before, looked_later, fails_later, parts_without, no_part_of}
+use Rattle.folder_protocol.proofs.Causing.{follows_none, follows_on, has_before, looked_later, fails_later, cause_between, parts_without, no_part_of}
 use Rattle.folder_protocol.proofs.Lines.{goes_on, joins, all_joined_later, answer_between}
 use Rattle.folder_protocol.proofs.replacing.replace.Goals as goal
 
@@ -31,3 +31,8 @@ returns-in-Err-clause-in_turn g c = λ parts named temp joined. goes_on parts _ 
 
 pub returns-in-Err-clause-fails : goal.returns-in-Err-clause-fails
 returns-in-Err-clause-fails g c = has_before Fails _ _ _ (follows_on _ _ _ _ (follows_none _) c.remove.ensures) c.in-Err.ensures.fails
+
+pub returns-in-Ok-clause-overtaken : goal.returns-in-Ok-clause-overtaken
+returns-in-Ok-clause-overtaken g c =
+    let wrote = c.in-Ok.ensures.in_turn (parts_without c.args.temporary.now) (no_part_of c.args.temporary.now) in
+    cause_between c.lock_and_replace.result (λ answer. answer ≡ None) (Lacks (map string_bytes c.args.joined.now)) _ _ _ _ (wrote.0, wrote.1) (follows_none _) c.lock_and_replace.ensures.overtaken

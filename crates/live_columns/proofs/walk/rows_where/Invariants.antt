@@ -1,5 +1,6 @@
 -- The vectors of the first batches are added.
-use Rattle.std.proofs.Common.{◌≡◌}
+use Rattle.std.proofs.Common.{◌≡◌, ◌≤◌, ◌+◌, ◌*◌}
+use Rattle.query_eval.specs.Kept.{live_vectors_below, where_mentions}
 use Rattle.live_columns.specs.Chosen.{AreThere, rows_in}
 use Rattle.live_columns.proofs.Walking.{first_where}
 use Rattle.live_columns.proofs.walk.rows_where.Given as goal
@@ -13,4 +14,5 @@ invariant-loop-batch g l =
       there : AreThere s l.vectors.items;
       table : (g.C.Columns.seen l.columns).table ≡ table;
       state : (g.C.Columns.seen l.columns).state ≡ s;
+      passes : (g.C.Columns.seen l.columns).passes ≤ (g.C.Columns.seen l.initial.columns).passes + where_mentions l.condition * live_vectors_below s l.batch;
     }

@@ -1,0 +1,68 @@
+-- How parts come to be kept.
+use Rattle.std.specs.Prelude.{◌≡◌, ◌⊎◌, ℕ, Bool, true, false, List, [], ◌∷◌, ◌++◌, Some, None, Result, Ok, Err, OnOk, OnErr, if◌then◌else◌}
+use Rattle.std.specs.Result.{is_ok}
+use Rattle.std.specs.Str.{bytes_eq}
+use Rattle.std.proofs.Common.{refl, sym, ap, subst, ◌∙◌, inl, inr, ⊎_elim}
+use Rattle.std.proofs.lemmas.Slice.Eq.{bytes_eq-Decides}
+use Rattle.folder_history.specs.Call.{Call, Read, Synced, Settled}
+use Rattle.folder_history.specs.Disk.{Among}
+use Rattle.folder_history.specs.Parts.{Parts}
+use Rattle.folder_history.specs.Turn.{Stage, Idle, Seen, Whole, synced, WasSynced, IsKept}
+use Rattle.folder_protocol.specs.Causes.{FindsNone, Fails, HasCall}
+use Rattle.folder_protocol.proofs.Causing.{Follows, follows_none, follows_on, has_now, has_later, has_before}
+use Rattle.folder_protocol.specs.Keeping.{Finds, IsSyncedOrGone, IsKeptOrGone}
+
+-- a part that was read and synced
+pub whole_now : (parts : Parts) (name bytes : List ℕ) (before mid after : List Call) → mid ≡ Read name (Some (Some bytes)) ∷ before → after ≡ Synced true ∷ mid → name ≡ parts.name_of bytes → WasSynced parts bytes after
+whole_now parts name bytes before mid after read is named =
+    let test : bytes_eq name (parts.name_of bytes) ≡ true = (bytes_eq-Decides name (parts.name_of bytes)).1 named in
+    let stage : synced true (if bytes_eq name (parts.name_of bytes) then Seen bytes else Idle) ≡ Whole bytes = ap (λ (t : Bool). synced true (if t then Seen bytes else Idle)) test in
+    let both : after ≡ Synced true ∷ Read name (Some (Some bytes)) ∷ before = is ∙ ap (λ (l : List Call). Synced true ∷ l) read in
+    subst (λ (l : List Call). WasSynced parts bytes l) (sym both) (inl stage)
+
+-- stays so
+synced_later : (parts : Parts) (bytes : List ℕ) (calls before : List Call) → WasSynced parts bytes before → WasSynced parts bytes (calls ++ before)
+synced_later parts bytes [] before was = was
+synced_later parts bytes (call ∷ calls) before was = inr (synced_later parts bytes calls before was)
+
+pub synced_since : (parts : Parts) (bytes : List ℕ) (before after : List Call) → Follows before after → WasSynced parts bytes before → WasSynced parts bytes after
+synced_since parts bytes before after (calls, is) was = subst (λ (l : List Call). WasSynced parts bytes l) (sym is) (synced_later parts bytes calls before was)
+
+-- what came of one name, between calls more
+pub one_between : (parts : Parts) (name : List ℕ) (first before mid after : List Call) → Follows first before → Follows mid after → IsSyncedOrGone parts name before mid → IsSyncedOrGone parts name first after
+one_between parts name first before mid after earlier later (inl none) = inl (has_before (FindsNone name) first mid after later (has_later (FindsNone name) first before mid earlier none))
+one_between parts name first before mid after earlier later (inr (bytes, found, was)) =
+    inr (bytes, has_before (Finds name bytes) first mid after later (has_later (Finds name bytes) first before mid earlier found), λ named. synced_since parts bytes mid after later (was named))
+
+-- and once the folder is synced
+pub one_settled : (parts : Parts) (name : List ℕ) (before mid after : List Call) → after ≡ Settled true ∷ mid → IsSyncedOrGone parts name before mid → IsKeptOrGone parts name before after
+one_settled parts name before mid after is (inl none) = inl (has_before (FindsNone name) before mid after (follows_on mid mid after (Settled true) (follows_none mid) is) none)
+one_settled parts name before mid after is (inr (bytes, found, was)) =
+    inr (bytes, has_before (Finds name bytes) before mid after (follows_on mid mid after (Settled true) (follows_none mid) is) found, λ named. subst (λ (l : List Call). IsKept parts bytes l) (sym is) (inl (was named)))
+
+pub all_settled : {T E : Type 0} (r : Result T E) (parts : Parts) (names : List (List ℕ)) (before mid after : List Call) → after ≡ Settled (is_ok r) ∷ mid
+    → ((name : List ℕ) → Among name names → IsSyncedOrGone parts name before mid) → OnOk r ((name : List ℕ) → Among name names → IsKeptOrGone parts name before after)
+all_settled (Ok x) parts names before mid after is each = λ name among. one_settled parts name before mid after is (each name among)
+all_settled (Err e) parts names before mid after is each = tt
+
+-- a read that is synced, or found nothing
+pub synced_now : {T E : Type 0} (r : Result T E) (parts : Parts) (name bytes : List ℕ) (before mid after : List Call) → mid ≡ Read name (Some (Some bytes)) ∷ before → after ≡ Synced (is_ok r) ∷ mid → OnOk r (IsSyncedOrGone parts name before after)
+synced_now (Ok x) parts name bytes before mid after read is =
+    inr (
+      bytes,
+      has_before (Finds name bytes) before mid after (follows_on mid mid after (Synced true) (follows_none mid) is) (has_now (Finds name bytes) before mid (Read name (Some (Some bytes))) read (refl, refl)),
+      λ named. whole_now parts name bytes before mid after read is named,
+    )
+synced_now (Err e) parts name bytes before mid after read is = tt
+
+pub gone_now : (parts : Parts) (name : List ℕ) (before after : List Call) → after ≡ Read name (Some None) ∷ before → IsSyncedOrGone parts name before after
+gone_now parts name before after read = inl (has_now (FindsNone name) before after (Read name (Some None)) read (refl, refl))
+
+-- any: which calls were made is the same for all
+pub any_parts : Parts
+any_parts = record { name_of = λ b. b; covers = λ b a. true }
+
+-- a sync of the folder, after some calls
+pub settle_fails : {T E : Type 0} (r : Result T E) (before mid after : List Call) → Follows before mid → after ≡ Settled (is_ok r) ∷ mid → OnErr r (HasCall Fails before after)
+settle_fails (Ok x) before mid after first is = tt
+settle_fails (Err e) before mid after first is = has_later Fails before mid after first (has_now Fails mid after (Settled false) is refl)

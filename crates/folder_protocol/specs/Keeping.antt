@@ -1,0 +1,26 @@
+-- Parts that are had on the disk since a command relies on them.
+use Rattle.std.specs.Prelude.{◌≡◌, ◌⊎◌, ℕ, List, Some}
+use Rattle.folder_history.specs.Call.{Call, Read}
+use Rattle.folder_history.specs.Disk.{Among}
+use Rattle.folder_history.specs.Parts.{Parts}
+use Rattle.folder_history.specs.Turn.{WasSynced, IsKept}
+use Rattle.folder_protocol.specs.Causes.{FindsNone, HasCall}
+
+-- the file of this name had these bytes
+abbrev pub Finds : List ℕ → List ℕ → Call → Type 0
+Finds name bytes (Read other (Some (Some found))) = (other ≡ name) × (found ≡ bytes)
+Finds name bytes call = ⊥
+
+-- There was no file of this name; or it was read, and, if it is a part, synced.
+abbrev pub IsSyncedOrGone : Parts → List ℕ → List Call → List Call → Type 0
+IsSyncedOrGone parts name before after =
+    HasCall (FindsNone name) before after ⊎ ((bytes : List ℕ) × HasCall (Finds name bytes) before after × (name ≡ parts.name_of bytes → WasSynced parts bytes after))
+
+-- The same, and the folder was synced after that.
+abbrev pub IsKeptOrGone : Parts → List ℕ → List Call → List Call → Type 0
+IsKeptOrGone parts name before after =
+    HasCall (FindsNone name) before after ⊎ ((bytes : List ℕ) × HasCall (Finds name bytes) before after × (name ≡ parts.name_of bytes → IsKept parts bytes after))
+
+-- so is each of these names
+abbrev pub AreKept : Parts → List (List ℕ) → List Call → List Call → Type 0
+AreKept parts names before after = (name : List ℕ) → Among name names → IsKeptOrGone parts name before after

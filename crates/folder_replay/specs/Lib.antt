@@ -1,0 +1,4 @@
+pub mod Coding
+pub mod Calls
+pub mod Run
+pub mod Steps

@@ -1,0 +1,20 @@
+//! The protocol of a folder of parts, driven from outside: it asks for one call after another, and is told what came of each. It is the
+//! code of `folder_protocol` itself, run from its beginning over the answers that were told.
+#![tactic(auto)]
+
+mod answering;
+mod asking;
+mod program;
+mod programs;
+mod replay;
+mod request;
+mod script;
+mod step;
+mod wanted;
+
+pub use asking::next;
+pub use program::Program;
+pub use programs::{Keeping, Putting, Reading, Removing, Replacing};
+pub use replay::Fault;
+pub use request::{Answer, Request, Told};
+pub use step::Step;

@@ -1,0 +1,149 @@
+//! The heads of inputs that are read one after another, which have their tables: a sentence on a refusal may name them.
+
+use column_file::read_schema;
+use std::alloc::Global;
+use std::cell::Cell;
+use std::io::{self, Read};
+use table_model::Schema;
+
+/// How many bytes at the head of a file have its schema: at most 6 before it, 67 of the table, and 66 a column.
+pub const HEAD_BYTES: usize = 4096;
+
+/// The byte at which a file has its version: two bytes, the lower first.
+const VERSION_AT: usize = 4;
+
+/// The first bytes of an input, at most [`HEAD_BYTES`].
+#[derive(Drop)]
+pub struct Head {
+    bytes: Vec<u8>,
+}
+
+impl Head {
+    /// The head of an input of which nothing was read yet.
+    pub fn new(alloc: Global) -> Head {
+        Head {
+            bytes: Vec::new(alloc),
+        }
+    }
+
+    /// Adds the bytes that came next, as far as there is room. Without memory for them the head is as it was.
+    pub fn add(&mut self, bytes: &[u8]) {
+        let room = HEAD_BYTES.saturating_sub(self.bytes.len());
+        let (more, _) = bytes.split_at(room.min(bytes.len()));
+        if !more.is_empty() {
+            let _ = self.bytes.extend_from_slice(more);
+        }
+    }
+
+    /// The table of the input, if its schema is in the head.
+    pub fn schema(&self, alloc: Global) -> Option<Schema> {
+        schema_in(alloc, self.bytes.as_slice())
+    }
+}
+
+/// The schema in a file's first bytes, if it is there.
+pub fn schema_in(alloc: Global, head: &[u8]) -> Option<Schema> {
+    let (front, rest) = head.split_at_checked(VERSION_AT + 2)?;
+    let version = u64::from(front[VERSION_AT]) + 256 * u64::from(front[VERSION_AT + 1]);
+    match read_schema(alloc, version, head.len(), rest) {
+        Ok((schema, _)) => Some(schema),
+        Err(_) => None,
+    }
+}
+
+/// The heads of the first of some inputs, and of the one that was begun last.
+#[derive(Drop)]
+pub struct Heads {
+    alloc: Global,
+    begun: Cell<usize>,
+    first: Cell<Head>,
+    last: Cell<Head>,
+}
+
+impl Heads {
+    /// No input was begun yet.
+    pub fn new(alloc: Global) -> Heads {
+        Heads {
+            alloc,
+            begun: Cell::new(0),
+            first: Cell::new(Head::new(alloc)),
+            last: Cell::new(Head::new(alloc)),
+        }
+    }
+
+    /// Begins the next input.
+    pub fn begin(&self) {
+        let before = self.last.replace(Head::new(self.alloc));
+        if self.begun.get() == 1 {
+            self.first.set(before);
+        }
+        self.begun.set(self.begun.get().saturating_add(1));
+    }
+
+    /// Takes the bytes that came next of the input that was begun last.
+    pub fn take(&self, bytes: &[u8]) {
+        let mut head = self.last.replace(Head::new(self.alloc));
+        head.add(bytes);
+        self.last.set(head);
+    }
+
+    /// How many inputs were begun.
+    pub fn begun(&self) -> usize {
+        self.begun.get()
+    }
+
+    /// The table of the first input, if another one was begun after it.
+    pub fn first_table(&self) -> Option<Schema> {
+        self.table_in(&self.first)
+    }
+
+    /// The table of the input that was begun last.
+    pub fn last_table(&self) -> Option<Schema> {
+        self.table_in(&self.last)
+    }
+
+    /// The table in a head, which stays there.
+    fn table_in(&self, place: &Cell<Head>) -> Option<Schema> {
+        let head = place.replace(Head::new(self.alloc));
+        let schema = head.schema(self.alloc);
+        place.set(head);
+        schema
+    }
+}
+
+/// A reader of one of several inputs whose heads are kept.
+#[derive(Drop)]
+pub struct Headed<'h, D> {
+    heads: &'h Heads,
+    inner: D,
+    is_begun: bool,
+}
+
+impl<'h, D> Headed<'h, D> {
+    /// A reader, from which nothing was read yet.
+    pub fn new(heads: &'h Heads, inner: D) -> Headed<'h, D> {
+        Headed {
+            heads,
+            inner,
+            is_begun: false,
+        }
+    }
+
+    /// The reader itself.
+    pub fn into_inner(self) -> D {
+        let Headed { inner, .. } = self;
+        inner
+    }
+}
+
+impl<'h, D: Read> Read for Headed<'h, D> {
+    fn read(&mut self, buffer: &mut [u8]) -> io::Result<usize> {
+        if !self.is_begun {
+            self.is_begun = true;
+            self.heads.begin();
+        }
+        let count = self.inner.read(buffer)?;
+        self.heads.take(buffer.get(..count).unwrap_or(&[]));
+        Ok(count)
+    }
+}
