@@ -1,6 +1,6 @@
 #!/usr/bin/env python3
 """Checks a few words of the pages that are written by hand: README.md, CONTRIBUTING.md, docs/*.md but DEFINITIONS.md, the examples, the
-READMEs of tests and benchmarks, and those of crates; and of the docstrings of all crates but a few low ones. A condition is told by `if` or `when`, so the
+READMEs of tests and benchmarks, and those of crates; and of the docstrings of all crates. A condition is told by `if` or `when`, so the
 word `where` comes in headings alone; and `is had` and `is none` are not said. Nor are they in the texts of the program's messages, in all
 crates. The pages that belong to no crate, and the messages, do not say `stands` for `is`, `lacks`, `beside` and `maybe` either. Code is passed over. It prints each line that is wrong, and the status is then 1."""
 import pathlib, re, sys
@@ -9,11 +9,6 @@ TOP = pathlib.Path(__file__).resolve().parent.parent
 PAGES = ["README.md", "CONTRIBUTING.md", "docs/*.md", "examples/*.md", "tests/README.md", "bench/README.md", "python/README.md"]
 READMES = ["crates/*/README.md"]
 WRITTEN = ["DEFINITIONS.md"]
-# The crates whose docstrings are still to be mended. Nearly all others stand on them, and a change of a docstring has all of them proved
-# anew, so that goes with the next change of their code.
-STILL = ["table_model", "transpose_order", "bit_interleave", "frame_delta", "run_dictionary", "catalogue_join", "segment_core", "forgotten_batches", "fused_kernels"]
-STILL += ["replica_store", "query_eval", "partial_answers", "column_file", "partial_file", "live_columns", "table_spread", "replica_files", "folder_parts"]
-STILL += ["csv_rows_tests", "query_parser_tests", "store_view_tests"]
 # A text of a program that has two words at least, so that names and options are none.
 TEXT = re.compile(r'"((?:[^"\\]|\\.)* (?:[^"\\]|\\.)*)"')
 # The condition of a script's line.
@@ -41,12 +36,6 @@ def messages_of(source):
     return [(number, text.replace(SCRIPT_WORD, "")) for number, line in lines for text in TEXT.findall(line)]
 
 
-def is_still_to_be_mended(source):
-    """Whether a source is of one of those crates, or of the tests of one."""
-    crate = source.relative_to(TOP).parts[1]
-    return crate in STILL or crate.removesuffix("_tests") in STILL
-
-
 def faults_of(file, lines, not_said=NOT_SAID):
     """The words of these lines of a file that are not said."""
     return [f"{file.relative_to(TOP)}:{number}: {found[0]}" for number, line in lines for found in not_said.finditer(line)]
@@ -58,8 +47,8 @@ def pages_of(patterns):
 
 
 def main():
-    sources = [source for source in sorted((TOP / "crates").glob("*/src/**/*.rt")) if not is_still_to_be_mended(source)]
-    speaking = [source for source in sorted((TOP / "crates").glob("*/src/**/*.rt")) if "_tests/" not in str(source)]
+    sources = sorted((TOP / "crates").glob("*/src/**/*.rt"))
+    speaking = [source for source in sources if "_tests/" not in str(source)]
     wrong = [fault for page in pages_of(PAGES) for fault in faults_of(page, lines_of(page), NOT_SAID_TO_USERS)]
     wrong += [fault for page in pages_of(READMES) for fault in faults_of(page, lines_of(page))]
     wrong += [fault for source in sources for fault in faults_of(source, docstrings_of(source))]

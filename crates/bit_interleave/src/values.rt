@@ -49,7 +49,7 @@ impl Stored {
     }
 }
 
-/// The values of a type that these numbers are, with no room to spare, or AllocError where memory is refused.
+/// The values of a type that these numbers are, with no room to spare, or AllocError if memory is refused.
 fn narrowed<V: LaneValue>(alloc: Global, numbers: &[i64]) -> Result<Vec<V>, AllocError>
     requires { AreInRange V.BITS numbers.now }
     ensures { IfOk result (λ values. map V.value values.items ≡ numbers.now) }
@@ -73,7 +73,7 @@ fn widened<'a, V: LaneValue>(values: &[V], room: &'a mut [i64; 1024]) -> &'a [i6
 }
 
 impl Values {
-    /// Values of `lane_width` bits, 8, 16, 32 or 64, that are these numbers, which are in that range, or AllocError where memory
+    /// Values of `lane_width` bits, 8, 16, 32 or 64, that are these numbers, which are in that range, or AllocError if memory
     /// is refused.
     pub fn from_slice(alloc: Global, lane_width: usize, numbers: &[i64]) -> Result<Self, AllocError>
         requires lane_width { IsLaneWidth lane_width }
@@ -218,7 +218,7 @@ impl Values {
         }
     }
 
-    /// The same values again, or AllocError where memory is refused.
+    /// The same values again, or AllocError if memory is refused.
     pub fn copy(&self, alloc: Global) -> Result<Self, AllocError>
         ensures { IfOk result (λ values. values ≡ self.now) }
     {

@@ -33,7 +33,7 @@ fn read_into<U: LaneWord>(bytes: &[u8], words: &mut [U])
     }
 }
 
-/// The words that bytes are, or AllocError where memory is refused. The bytes are a whole number of words.
+/// The words that bytes are, or AllocError if memory is refused. The bytes are a whole number of words.
 pub(crate) fn words_of<U: LaneWord>(alloc: Global, bytes: &[u8]) -> Result<Vec<U>, AllocError>
     requires { length bytes.now % (U.BITS / 8) ≡ 0 }
     ensures value { IfOk result (λ words. record { lane_width = U.BITS; numbers = map U.number words.items } ≡ words_of_bytes U.BITS bytes.now) }

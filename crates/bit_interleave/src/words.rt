@@ -56,7 +56,7 @@ impl Stored {
     }
 }
 
-/// The words that pack 1024 values of `width` bits in row order, or AllocError where memory is refused.
+/// The words that pack 1024 values of `width` bits in row order, or AllocError if memory is refused.
 fn packed_vec<U: LaneWord>(
     alloc: Global,
     width: usize,
@@ -73,7 +73,7 @@ fn packed_vec<U: LaneWord>(
     Ok(words)
 }
 
-/// The words with these numbers, or AllocError where memory is refused.
+/// The words with these numbers, or AllocError if memory is refused.
 fn vec_of<U: LaneWord>(alloc: Global, numbers: &[u64]) -> Result<Vec<U>, AllocError>
     requires { All (λ n. n < 2 ^ U.BITS) numbers.now }
     ensures numbers { IfOk result (λ words. map U.number words.items ≡ numbers.now) }
@@ -88,7 +88,7 @@ fn vec_of<U: LaneWord>(alloc: Global, numbers: &[u64]) -> Result<Vec<U>, AllocEr
 
 impl Words {
     /// The `width * lanes` words that pack 1024 values of `width` bits in row order, for `lanes = 1024 / lane_width`, or
-    /// AllocError where memory is refused.
+    /// AllocError if memory is refused.
     ///
     /// The lane width is 8, 16, 32 or 64, and the width 0 to `lane_width`. At width 0 there are no words.
     pub fn pack(
@@ -110,7 +110,7 @@ impl Words {
         }
     }
 
-    /// Words of `lane_width` bits, 8, 16, 32 or 64, with these numbers, which fit them, or AllocError where memory is
+    /// Words of `lane_width` bits, 8, 16, 32 or 64, with these numbers, which fit them, or AllocError if memory is
     /// refused.
     pub fn from_numbers(
         alloc: Global,
@@ -129,7 +129,7 @@ impl Words {
         }
     }
 
-    /// The words of `lane_width` bits, 8, 16, 32 or 64, that bytes are, each lowest byte first, or AllocError where memory
+    /// The words of `lane_width` bits, 8, 16, 32 or 64, that bytes are, each lowest byte first, or AllocError if memory
     /// is refused. The bytes are a whole number of words.
     pub fn from_le_bytes(alloc: Global, lane_width: usize, bytes: &[u8]) -> Result<Self, AllocError>
         requires lane_width { IsLaneWidth lane_width }
@@ -172,7 +172,7 @@ impl Words {
         }
     }
 
-    /// How many words there are: `width * (1024 / lane_width)` where they pack values of `width` bits.
+    /// How many words there are: `width * (1024 / lane_width)` if they pack values of `width` bits.
     pub fn len(&self) -> usize
         ensures value { result ≡ length self.now.numbers }
         ensures fit { FitLanes self.now }
@@ -201,7 +201,7 @@ impl Words {
         self.len() == 0
     }
 
-    /// The bits of each value, where the words pack 1024 of them: `len()` by the number of lanes, `1024 / lane_width`.
+    /// The bits of each value, if the words pack 1024 of them: `len()` by the number of lanes, `1024 / lane_width`.
     pub fn packed_width(&self) -> usize
         ensures { result ≡ packed_width self.now }
     {
@@ -339,7 +339,7 @@ impl Words {
         }
     }
 
-    /// The same words again, or AllocError where memory is refused.
+    /// The same words again, or AllocError if memory is refused.
     pub fn copy(&self, alloc: Global) -> Result<Self, AllocError>
         ensures { IfOk result (λ words. words ≡ self.now) }
     {

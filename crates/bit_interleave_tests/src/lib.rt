@@ -1,4 +1,4 @@
-//! Tests of bit_interleave: packed words at values worked out by hand, and where a growth is refused.
+//! Tests of bit_interleave: packed words at values worked out by hand, and calls with a growth refused.
 #![tactic(auto)]
 
 #[cfg(test)]

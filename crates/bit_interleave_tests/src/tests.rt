@@ -1,5 +1,5 @@
 //! Packing at values worked out from the definition. At lane width T row n stands at step n mod T of lane
-//! 16 * g + n div 64, where g is n mod 64 div T with its bits in reverse. Bit b of word w of lane l is bit
+//! 16 * g + n div 64. Here g is n mod 64 div T with its bits in reverse. Bit b of word w of lane l is bit
 //! (w * T + b) mod W of the lane's value at step (w * T + b) div W, and that word has the index w * (1024 / T) + l.
 ghost use Rattle.std.specs.Prelude.{◌*◌, ◌/◌, ◌<◌, ◌≤◌, ◌^◌};
 ghost use Rattle.std.specs.List.{All};
@@ -11,7 +11,7 @@ use std::simd::prelude::*;
 use std::test::Fail;
 use test_support::{agree, agree_at};
 
-/// The greatest number of `width` bits where it is asked for, and else 0.
+/// The greatest number of `width` bits if it is asked for, and else 0.
 fn greatest_if(asked: bool, width: usize) -> u64
     requires positive { 0 < width }
     requires width { width ≤ 64 }

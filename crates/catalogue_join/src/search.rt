@@ -30,7 +30,7 @@ pub fn overlap<S: Span>(ranges: &[S], range: S) -> &[S]
     &ranges[first..end]
 }
 
-/// Where a range goes: how many ranges end before it without touching it, and how many begin before it ends or touch it.
+/// The place to which a range goes: how many ranges end before it without touching it, and how many begin before it ends or touch it.
 pub fn place_of<S: Span>(ranges: &[S], range: S) -> (usize, usize)
     requires rising { Rises S.shape 0 ranges.now }
     requires not_empty { S.shape.low range ≤ S.shape.high range }

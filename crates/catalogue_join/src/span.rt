@@ -10,19 +10,19 @@ pub trait Span: Copy {
     fn ends_before(self, other: Self) -> bool
         ensures { result ≡ apart shape self other };
 
-    /// Whether this range begins where `other` does or before.
+    /// Whether this range begins no later than `other` does.
     fn begins_by(self, other: Self) -> bool
         ensures { result ≡ nat_le (shape.low self) (shape.low other) };
 
-    /// Whether this range ends where `other` does or before.
+    /// Whether this range ends no later than `other` does.
     fn ends_by(self, other: Self) -> bool
         ensures { result ≡ nat_le (shape.high self) (shape.high other) };
 
-    /// Whether this range ends where `other` begins or after.
+    /// Whether this range ends no earlier than `other` begins.
     fn reaches(self, other: Self) -> bool
         ensures { result ≡ nat_le (shape.low other) (shape.high self) };
 
-    /// The range from where the earlier one begins to where the later one ends, for two that touch.
+    /// The range from the earlier of the two beginnings to the later of the two ends, for two that touch.
     fn hull(self, other: Self) -> Self
         ensures { result ≡ shape.hull self other };
 

@@ -1,4 +1,4 @@
-//! Tests of catalogue_join: sets of names and of rows, at values worked out by hand, and where a growth is refused.
+//! Tests of catalogue_join: sets of names and of rows, at values worked out by hand, and calls with a growth refused.
 #![tactic(auto)]
 
 #[cfg(test)]

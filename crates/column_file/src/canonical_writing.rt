@@ -123,8 +123,8 @@ fn write_canonical<W: Write>(
 /// name, each vector in its canonical form, a null mask exactly if a vector has a null, and the deletions as maximal ranges. It
 /// does not show the own origin, the order of arrival or any coding of the store.
 ///
-/// The refusals are `Memory`, if there is none for the canonical copies of segments that aren't canonical, before anything is
-/// written; and then a write that fails (`WriteFault`), after which a beginning of the bytes was written.
+/// The refusals are `Memory`, if there is no memory for the canonical copies of segments that aren't canonical, before anything
+/// is written; and then a write that fails (`WriteFault`), after which a beginning of the bytes was written.
 pub fn export<W: Write>(
     alloc: Global,
     store: &Store,

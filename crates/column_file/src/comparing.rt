@@ -10,7 +10,7 @@ use std::io::Write;
 use std::marker::Model;
 use table_model::Refusal;
 
-/// The first place where two texts differ, or the length of the shorter one if the other begins with it.
+/// The first place at which two texts differ, or the length of the shorter one if the other begins with it.
 pub(crate) fn first_difference(a: &[u8], b: &[u8]) -> usize
     ensures { result ≡ first_difference a.now b.now }
 {
@@ -56,7 +56,7 @@ impl<'a> Comparison<'a> {
         }
     }
 
-    /// The first place where what came differs from what was expected, or the length of the shorter one.
+    /// The first place at which what came differs from what was expected, or the length of the shorter one.
     pub(crate) fn place(&self) -> usize
         ensures { result ≡ first_difference self.now.0 self.now.1 }
     {

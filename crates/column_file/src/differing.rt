@@ -1,5 +1,5 @@
-//! Finding where bytes that aren't the canonical file of their content differ from it: in the first vector that isn't canonical. So
-//! no other vector's canonical form is made.
+//! Finding the place at which bytes that aren't the canonical file of their content differ from it: in the first vector that isn't
+//! canonical. So no other vector's canonical form is made.
 ghost use Rattle.std.specs.Prelude.{◌≡◌, ◌<◌, length, map, slice_index_or, [], IfOk, IfErr, MatchOption, OnOk};
 ghost use Rattle.std.specs.List.{All};
 ghost use Rattle.table_model.specs.Table.{Table};

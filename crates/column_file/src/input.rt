@@ -30,7 +30,7 @@ fn after_read(alloc: Global, buffer: Vec<u8>, count: usize) -> Result<Vec<u8>, A
 }
 
 /// What a reader has, read to its end through a buffer, which grows if a read fills it. `ReadFault` if a read fails or more than 2^48
-/// bytes come, and `Memory` if there is none for what came.
+/// bytes come, and `Memory` if there is no memory for what came.
 fn read_through<R: Read>(
     alloc: Global,
     reader: &mut Counted<R>,
@@ -59,8 +59,8 @@ fn read_through<R: Read>(
     Err(Refusal::ReadFault)
 }
 
-/// What a reader has, read to its end. `ReadFault` if a read fails or more than 2^48 bytes come, and `Memory` if there is none for
-/// what came.
+/// What a reader has, read to its end. `ReadFault` if a read fails or more than 2^48 bytes come, and `Memory` if there is no memory
+/// for what came.
 pub fn read_input<R: Read>(alloc: Global, reader: &mut Counted<R>) -> Result<Vec<u8>, Refusal>
     ensures bytes { IfOk result (λ input. Consumes (R.remaining reader.old.0) (R.remaining reader.new.0) input.items) }
     ensures reads { ReadsWhole R.remaining is_unread reader.old reader.new result }

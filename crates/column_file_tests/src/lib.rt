@@ -1,4 +1,4 @@
-//! Tests of column_file: files and messages in bytes worked out by hand, and where a reader, a writer or a growth fails.
+//! Tests of column_file: files and messages in bytes worked out by hand, and when a reader, a writer or a growth fails.
 #![tactic(auto)]
 
 #[cfg(test)]

@@ -1,5 +1,5 @@
 //! Calls that read and write files and messages, each with a growth refused. A test's own growths are counted from 1: with the
-//! Nth refused, a test fails by an `AllocError` or `Memory` of its set-up, or, where it was a growth of the call that it is of,
+//! Nth refused, a test fails by an `AllocError` or `Memory` of its set-up, or, if it was a growth of the call that it is of,
 //! with the text `REFUSED` or `CHANGED`; with none refused it passes. The command `tests/refused-memory` refuses each in turn and
 //! counts those texts.
 use crate::file_tests::{THREE_ROWS, ZEROS, changed, opened};
@@ -63,7 +63,7 @@ fn reads(alloc: Global, call: Reading, reader: &mut Counted<&[u8]>) -> Result<bo
     }
 }
 
-/// What the call ends as, and what is left where a growth is refused.
+/// What the call ends as, and what is left if a growth is refused.
 fn is_read(rt: &impl Abort, alloc: Global, call: Reading, bytes: &[u8]) -> Result<(), Fail> {
     let mut reader = Counted::new(bytes);
     match reads(alloc, call, &mut reader) {
@@ -82,7 +82,7 @@ fn a_refused_open_gives_no_store(rt: HostRuntime) -> Result<(), Fail> {
     is_read(&rt, rt.alloc(), Reading::Open, &bytes)
 }
 
-/// What checking a file ends as, which is refused so or not at all, and what is left where a growth is refused.
+/// What checking a file ends as, which is refused so or not at all, and what is left if a growth is refused.
 fn is_checked(alloc: Global, bytes: &[u8], wanted: Option<Refusal>) -> Result<(), Fail> {
     let mut reader = Counted::new(bytes);
     let found = check(alloc, &mut reader).err();
@@ -138,7 +138,7 @@ fn exported(alloc: Global, store: &Store, room: &mut [u8]) -> (Result<(), Refusa
     (outcome, writer.failures())
 }
 
-/// What exporting a store that has this file ends as, and what is left where a growth is refused.
+/// What exporting a store that has this file ends as, and what is left if a growth is refused.
 fn is_exported(rt: &impl Abort, alloc: Global, store: &Store, bytes: &[u8]) -> Result<(), Fail> {
     let mut room = [0; ROOM];
     match exported(alloc, store, &mut room) {

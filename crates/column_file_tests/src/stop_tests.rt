@@ -1,4 +1,4 @@
-//! Reading and writing files and messages where the reader or the writer stops at a byte.
+//! Reading and writing files and messages when the reader or the writer stops at a byte.
 use crate::file_tests::{ONE_ROW, offer_from, opened};
 use crate::tests::TWO_NAMES;
 use column_file::{check, export, open, read_offer, read_summary, write_offer, write_summary};
@@ -46,7 +46,7 @@ fn read_fault(alloc: Global, call: Reading, reader: &mut Counted<Stop<&[u8]>>) -
     }
 }
 
-/// What a call that reads answers where the reader passes so many bytes on, and how often the reader failed.
+/// What a call that reads answers when the reader passes so many bytes on, and how often the reader failed.
 fn read_until(alloc: Global, call: Reading, bytes: &[u8], left: usize) -> (Option<Refusal>, u64) {
     let mut reader = Counted::new(Stop { inner: bytes, left });
     let fault = read_fault(alloc, call, &mut reader);
@@ -60,7 +60,7 @@ const READINGS: [(Reading, &[u8]); 4] = [
     (Reading::Summary, TWO_NAMES),
 ];
 
-/// Sees that a reader of these bytes has failed where it stops at any of them, and has not where it does not stop.
+/// Sees that a reader of these bytes has failed if it stops at any of them, and has not if it does not stop.
 fn see_reader_stop(alloc: Global, call: Reading, bytes: &[u8]) -> Result<(), Fail> {
     for left in 0..=bytes.len() {
         let found = read_until(alloc, call, bytes, left);
@@ -140,7 +140,7 @@ fn has_written(writer: Counted<Stop<Vec<u8>>>, bytes: &[u8]) -> bool {
     inner.as_slice() == bytes
 }
 
-/// What such a call answers and how often the writer failed, where the writer passes as many bytes on as this front of them has,
+/// What such a call answers and how often the writer failed, when the writer passes as many bytes on as this front of them has,
 /// and whether it was given that front.
 fn written_until(
     alloc: Global,

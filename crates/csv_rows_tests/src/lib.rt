@@ -1,4 +1,4 @@
-//! Tests of csv_rows: texts and their rows or first faults, worked out by hand, and where a reader, a writer or a growth fails.
+//! Tests of csv_rows: texts and their rows or first faults, worked out by hand, and cases in which a reader, a writer or a growth fails.
 #![tactic(auto)]
 
 #[cfg(test)]

@@ -1,5 +1,5 @@
 //! Reads and writes, each with a growth refused. A test's own growths are counted from 1: with the Nth refused, a test fails by an
-//! `AllocError` or `Memory` of its set-up, or, where it was a growth of the call that it is of, with the text `REFUSED` or
+//! `AllocError` or `Memory` of its set-up, or, if it was a growth of the call that it is of, with the text `REFUSED` or
 //! `CHANGED`; with none refused it passes. The command `tests/refused-memory` refuses each in turn and counts those texts.
 use crate::tests::three;
 use csv_rows::{CsvError, CsvReader, CsvWriter};

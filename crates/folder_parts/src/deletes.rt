@@ -23,7 +23,7 @@ fn found_rows(alloc: Global, held: &Store, condition: &str) -> Result<(Deleted, 
 }
 
 /// Writes the part of a delete by a condition: the deletions of the rows that aren't deleted in the store of all parts and at which the
-/// condition is true, and no batch. Where there is no such row nothing is written, and there is nothing to put.
+/// condition is true, and no batch. If there is no such row, nothing is written, and there is nothing to put.
 ///
 /// Refused are, in this order, `Syntax`, `NumberTooLarge` and `TooDeep`, the one whose token comes first; `NoSuchColumn`; `Memory`,
 /// which may come in the place of any of them; `WriteFault`. Only with the last anything is written: a front.
@@ -57,7 +57,7 @@ fn range_of_rows(
 /// Writes the part of a delete of a batch's rows from the first to the ordinal `last`, both included, held in the folder or not: the
 /// deletions of that range, and no batch. There is always something to put.
 ///
-/// Refused are, in this order, `BadName` where the batch's origin or number is 0; `BadRange` where `last` is less than the first
+/// Refused are, in this order, `BadName` if the batch's origin or number is 0; `BadRange` if `last` is less than the first
 /// ordinal; `Memory`; `WriteFault`. Only with the last anything is written: a front.
 pub fn part_of_rows<W: Write>(
     alloc: Global,

@@ -74,7 +74,7 @@ impl Join {
         Ok(Join { joined: next })
     }
 
-    /// The store that has what all parts hold. `Memory` is answered where there is none for it.
+    /// The store that has what all parts hold. `Memory` is answered if there is no memory for it.
     pub fn into_store(self, alloc: Global) -> Result<Store, Refusal>
         ensures store { Gives (λ store. store.replica) result (Ok self) }
         ensures segments { IfOk result (λ store. AreCanonicalOf store.replica.schema store.replica.state.batches store.segments) }

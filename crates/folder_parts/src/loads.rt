@@ -30,7 +30,7 @@ fn load_alone(
 /// is that of the first of some random words whose high 32 bits aren't all 0: these are its origin, and the low 31 bits, with 1
 /// added, its number. Without a batch nothing is written, and there is nothing to put; `new` is the number of batches.
 ///
-/// Refused are `NumbersSpent` where no word serves, `Memory`, and `WriteFault`. Only with the last anything is written: a front.
+/// Refused are `NumbersSpent` if no word serves, `Memory`, and `WriteFault`. Only with the last anything is written: a front.
 pub fn part_of_load<W: Write>(
     alloc: Global,
     load: Load,
@@ -62,7 +62,7 @@ fn load_lacked(
     Ok((Imported { new, ..loaded }, part))
 }
 
-/// Writes the part of a load under consecutive names from a given one on: the batches whose names no part of the folder holds. Where
+/// Writes the part of a load under consecutive names from a given one on: the batches whose names no part of the folder holds. If
 /// `new` is 0 nothing is written, and there is nothing to put. The store has what all parts hold, and has the load's batches
 /// afterwards.
 ///

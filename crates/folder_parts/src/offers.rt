@@ -57,7 +57,7 @@ fn offers_lacked(
     Ok((done, part))
 }
 
-/// Writes the part of offers: their batches whose names no part of the folder holds, and their deletions. Where the folder has all of
+/// Writes the part of offers: their batches whose names no part of the folder holds, and their deletions. If the folder has all of
 /// it already (`is_changed` is false) nothing is written, and there is nothing to put. The store has what all parts hold, and what the
 /// offers bring afterwards.
 ///

@@ -49,7 +49,7 @@ impl<R> Part<R> {
 }
 
 impl<R: Read> Part<R> {
-    /// The bytes, read to the end of the reader. `ReadFault` if a read fails or more than 2^48 bytes come, and `Memory` if there is none
+    /// The bytes, read to the end of the reader. `ReadFault` if a read fails or more than 2^48 bytes come, and `Memory` if there is no memory
     /// for what came.
     pub(crate) fn read(&mut self, alloc: Global) -> Result<Vec<u8>, Refusal>
         ensures name { self.new.0 ≡ self.old.0 }

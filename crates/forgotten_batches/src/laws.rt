@@ -2,7 +2,7 @@
 ghost use Rattle.forgotten_batches.specs.Forgotten.{ForgetLaws};
 ghost use Rattle.forgotten_batches.specs.ForgetHistory.{ForgetHistoryLaws, ForgetOfferLaws};
 
-/// What is left of a state where batches of which every row is deleted were dropped: it answers alike, joins alike, and has one least form.
+/// What is left of a state after batches of which every row is deleted were dropped: it answers alike, joins alike, and has one least form.
 pub fn forget_laws()
     ensures { ForgetLaws }
 {}

@@ -163,7 +163,7 @@ impl Delta {
     }
 
     /// The least form of 1024 values: the least difference of neighbours within a lane, and the least width. The values, in row
-    /// order, are in the range of `lane_width` bits, signed, which are 8, 16, 32 or 64. Where memory is refused, an `AllocError`.
+    /// order, are in the range of `lane_width` bits, signed, which are 8, 16, 32 or 64. If memory is refused, an `AllocError`.
     pub fn encode(
         alloc: Global,
         values: &[i64; 1024],
@@ -239,8 +239,8 @@ impl Delta {
         wrap(lane_width, sum)
     }
 
-    /// The sums of piece `piece`, 0 to 63, from those of the piece before, which count only where both pieces are of the same
-    /// lanes, that is where `piece` is no multiple of the lane width. Element i, modulo two to the power of the lane width and
+    /// The sums of piece `piece`, 0 to 63, from those of the piece before, which count only if both pieces are of the same
+    /// lanes, that is if `piece` is no multiple of the lane width. Element i, modulo two to the power of the lane width and
     /// read as signed, is the value at row `64 * i + place_in_word(lane_width, piece)`.
     pub fn sums(&self, piece: usize, before: Simd<u64, 16>) -> Simd<u64, 16>
         requires piece { piece < 64 }
@@ -317,7 +317,7 @@ impl Delta {
     }
 
     /// Whether the payload of the least form of 1024 values may have fewer bytes than `bound`, as far as the numbers of places 0 and 1
-    /// tell, sixteen each, of the numbers by places that `is_below` takes. Where it says no, it has no fewer.
+    /// tell, sixteen each, of the numbers by places that `is_below` takes. If it says no, it has no fewer.
     pub fn may_be_below(lane_width: usize, first: [u64; 16], second: [u64; 16], bound: u16) -> bool
         requires lane_width { IsLaneWidth lane_width }
         ensures { (numbers : List ℕ) (values : List ℤ) (r : ℤ) → AreOfPlace 0 first numbers → AreOfPlace 1 second numbers → AreAbove lane_width r numbers values
@@ -379,7 +379,7 @@ impl Delta {
         (self.words.lane_width() / 8 + 128 + 128 * self.words.packed_width()) as u16
     }
 
-    /// The same vector in memory of its own. Where memory is refused, an `AllocError`.
+    /// The same vector in memory of its own. If memory is refused, an `AllocError`.
     pub fn copy(&self, alloc: Global) -> Result<Self, AllocError>
         ensures { IfOk result (λ coded. coded ≡ self.now) }
     {

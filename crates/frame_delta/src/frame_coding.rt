@@ -80,7 +80,7 @@ impl For {
     }
 
     /// The least form of 1024 values: the least value as the reference, and the least width. The values, in row order, are in
-    /// the range of `lane_width` bits, signed, which are 8, 16, 32 or 64. Where memory is refused, an `AllocError`.
+    /// the range of `lane_width` bits, signed, which are 8, 16, 32 or 64. If memory is refused, an `AllocError`.
     pub fn encode(
         alloc: Global,
         values: &[i64; 1024],
@@ -104,7 +104,7 @@ impl For {
     }
 
     /// The least form of 1024 values that are all `value`: the value as the reference, and no words. The value is in the range of
-    /// `lane_width` bits, signed, which are 8, 16, 32 or 64. Where memory is refused, an `AllocError`.
+    /// `lane_width` bits, signed, which are 8, 16, 32 or 64. If memory is refused, an `AllocError`.
     pub fn constant(alloc: Global, lane_width: usize, value: i64) -> Result<Self, AllocError>
         requires lane_width { IsLaneWidth lane_width }
         requires fits { FitsSigned (integer_width lane_width) value }
@@ -260,7 +260,7 @@ impl For {
         (self.words.lane_width() / 8 + 128 * self.width) as u16
     }
 
-    /// The same vector in memory of its own. Where memory is refused, an `AllocError`.
+    /// The same vector in memory of its own. If memory is refused, an `AllocError`.
     pub fn copy(&self, alloc: Global) -> Result<Self, AllocError>
         ensures { IfOk result (λ coded. coded ≡ self.now) }
     {

@@ -1,4 +1,4 @@
-//! The runs of a coded vector: the rows where they start, and their values in order.
+//! The runs of a coded vector: the rows at which they start, and their values in order.
 ghost use Rattle.std.specs.Prelude.{◌≡◌, ℕ, ◌<◌, IfSome, IsSome, None, is_some, cond, length};
 ghost use Rattle.bit_interleave.specs.Range.{value_at};
 ghost use Rattle.run_dictionary.specs.Runs.{RunForm};
@@ -21,9 +21,9 @@ fn write_run_values(form: &Runs, values: &mut [i64; 1024])
     }
 }
 
-/// Writes the values of the runs of a vector in order, from the first place on, and answers the rows where a run starts after row
-/// 0. None if the vector isn't coded by runs; then the values are as they were. A run of rows that are null or aren't covered can have
-/// any value. The meter counts one pass more if it answers.
+/// Writes the values of the runs of a vector in order, from the first place on, and answers the rows at which a run starts after
+/// row 0. None if the vector isn't coded by runs; then the values are as they were. A run of rows that are null or aren't covered
+/// can have any value. The meter counts one pass more if it answers.
 pub fn vector_runs_into(
     vector: &CodedVector,
     values: &mut [i64; 1024],

@@ -7,7 +7,7 @@ ghost use Rattle.live_columns.specs.Chosen.{picked};
 
 use transpose_order::{Mask, VECTOR_ROWS};
 
-/// The byte at a place where the bits of a number of cells are 1, from the first byte on, and those after them 0.
+/// The byte at a place of the bytes in which the bits of a number of cells are 1, from the first byte on, and those after them 0.
 fn front_byte(cells: usize, index: usize) -> u8
     requires { index < 2 ^ 60 }
     ensures { result ≡ 2 ^ (min (cells - 8 * index) 8) - 1 }

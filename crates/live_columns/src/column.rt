@@ -13,7 +13,7 @@ use crate::cells::{cells_into, put_rows};
 use crate::chosen::ChosenRows;
 use query_eval::{Columns, KeptVector};
 
-/// Writes the cells of a column at the rows of a vector that are kept, from a cell on: their numbers, and a cleared bit where a cell
+/// Writes the cells of a column at the rows of a vector that are kept, from a cell on: their numbers, and a cleared bit if a cell
 /// is null. It answers how many are.
 fn write_vector<C: Columns>(
     columns: &mut C,
@@ -50,7 +50,7 @@ pub fn stride_of(cells: usize) -> usize
 }
 
 /// Writes the cells of a column at chosen rows: their numbers, 0 at a null, and their validity bits, bit `i % 8` of byte `i / 8` being
-/// 1 where cell `i` is a value, and 0 where it is null and past the last cell. It answers how many cells are null.
+/// 1 if cell `i` is a value, and 0 if it is null or past the last cell. It answers how many cells are null.
 fn write_column<C: Columns>(
     columns: &mut C,
     chosen: &ChosenRows,
@@ -82,7 +82,7 @@ fn write_column<C: Columns>(
 }
 
 /// Writes the cells of columns at chosen rows, column by column: their numbers, 0 at a null; their validity bits, bit `i % 8` of byte
-/// `i / 8` being 1 where cell `i` is a value, and 0 where it is null and past the last cell; and how many cells are null.
+/// `i / 8` being 1 if cell `i` is a value, and 0 if it is null or past the last cell; and how many cells are null.
 ///
 /// Each column takes one pass over each vector that has a chosen row.
 ///

@@ -37,7 +37,7 @@ pub fn first_shared(one: &Held, other: &Held) -> Option<BatchName>
     None
 }
 
-/// The lesser of two names, where `None` is no name.
+/// The lesser of two names. `None` is no name.
 pub fn lesser_name(a: Option<BatchName>, b: Option<BatchName>) -> Option<BatchName>
     ensures { result ≡ lesser_name a b }
 {

@@ -126,7 +126,7 @@ fn total(a: i128, b: i128) -> Result<i128, PartialAnswerFault>
     }
 }
 
-/// The lesser of two values, where `None` is no value.
+/// The lesser of two values. `None` is no value.
 fn lesser(a: Option<i64>, b: Option<i64>) -> Option<i64>
     ensures { result ≡ the_lesser a b }
 {
@@ -137,7 +137,7 @@ fn lesser(a: Option<i64>, b: Option<i64>) -> Option<i64>
     }
 }
 
-/// The greater of two values, where `None` is no value.
+/// The greater of two values. `None` is no value.
 fn greater(a: Option<i64>, b: Option<i64>) -> Option<i64>
     ensures { result ≡ the_greater a b }
 {

@@ -8,7 +8,7 @@ pub fn partial_answer_laws()
     ensures { PartialAnswerLaws }
 {}
 
-/// Partial answers that name the batches that they counted are combined exactly where that is right, and no partial answer counts twice.
+/// Partial answers that name the batches that they counted are combined exactly when that is right, and no partial answer counts twice.
 pub fn counted_laws()
     ensures { CountedLaws }
 {}

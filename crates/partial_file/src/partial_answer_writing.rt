@@ -57,7 +57,7 @@ fn write_both<W: Write>(
     write_whole(writer, rest)
 }
 
-/// Writes a partial answer. The refusals are `Memory`, where nothing is written, and `WriteFault`, where a write failed; a front of
+/// Writes a partial answer. The refusals are `Memory`, and then nothing is written, and `WriteFault`, if a write failed; a front of
 /// the bytes was written then. What was written whole has the bytes of a partial answer that is read again.
 pub fn write_partial_answer<W: Write>(
     alloc: Global,

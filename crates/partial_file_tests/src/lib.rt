@@ -1,4 +1,4 @@
-//! Tests of partial_file: partial answers in bytes, at worked bytes and places, and where a reader, a writer or a growth fails.
+//! Tests of partial_file: partial answers in bytes, at worked bytes and places, and when a reader, a writer or a growth fails.
 #![tactic(auto)]
 
 #[cfg(test)]

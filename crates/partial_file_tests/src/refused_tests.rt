@@ -1,5 +1,5 @@
 //! Calls that read and write a partial answer, each with a growth refused. A test's own growths are counted from 1: with the Nth
-//! refused, a test fails by an `AllocError` or `Memory` of its set-up, or, where it was a growth of the call that it is of, with
+//! refused, a test fails by an `AllocError` or `Memory` of its set-up, or, if it was a growth of the call that it is of, with
 //! the text `REFUSED` or `CHANGED`; with none refused it passes. The command `tests/refused-memory` refuses each in turn and counts
 //! those texts.
 use crate::bytes::{EVERYTHING, partial_answer_from};
@@ -26,7 +26,7 @@ fn reads(alloc: Global, reader: &mut Counted<&[u8]>) -> Result<bool, Refusal> {
     Ok(partial.groups().len() == 2)
 }
 
-/// What reading ends as, and what is left where a growth is refused.
+/// What reading ends as, and what is left if a growth is refused.
 fn is_read(rt: &impl Abort, alloc: Global, bytes: &[u8]) -> Result<(), Fail> {
     let mut reader = Counted::new(bytes);
     match reads(alloc, &mut reader) {
@@ -52,7 +52,7 @@ fn written(alloc: Global, partial: &PartialAnswer, room: &mut [u8]) -> (Result<(
     (outcome, writer.failures())
 }
 
-/// What writing a partial answer that has these bytes ends as, and what is left where a growth is refused.
+/// What writing a partial answer that has these bytes ends as, and what is left if a growth is refused.
 fn is_written(
     rt: &impl Abort,
     alloc: Global,

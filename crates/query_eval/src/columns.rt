@@ -142,7 +142,7 @@ pub trait Columns {
         ensures values { (n : ℕ) (z : ℤ) → n < 1024 → cell_at (vector_of (seen self.old).state id) column n ≡ Some z → slice_index_or values.new n (pos 0) ≡ z }
         ensures read { IsCounted (seen self.old) (seen self.new) 1 };
 
-    /// Writes the values of the runs of a column in order, from the first place on, and answers the rows where a run starts after
+    /// Writes the values of the runs of a column in order, from the first place on, and answers the rows at which a run starts after
     /// row 0. None if the column isn't coded by runs in the vector: no pass is counted then, and the values are as they were. A run of
     /// rows that are null or past the vector's end can have any value.
     fn runs_into(&mut self, id: VectorId, column: usize, values: &mut [i64; 1024]) -> Option<Mask>

@@ -58,7 +58,7 @@ pub fn apply_offers(
     })
 }
 
-/// Applies offers to what a file holds, one after another, and writes the file anew where it changed: all of them, or none.
+/// Applies offers to what a file holds, one after another, and writes the file anew if it changed: all of them, or none.
 ///
 /// Refused are, in this order, what [`open`] refuses; and then offer by offer `SchemaDiffers`, `Conflict` with the least name that
 /// has two lists of rows, and `Full`; `Memory`, which may come in the place of any of them; `WriteFault`. Only with the last anything

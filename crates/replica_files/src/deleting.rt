@@ -13,7 +13,7 @@ use std::io::{Read, Write};
 use store_view::names_where;
 use table_model::{Counted, Origin, Refusal, RowName};
 
-/// What a delete by a condition did. The file has changed where there were such rows.
+/// What a delete by a condition did. The file has changed if there were such rows.
 #[derive(Clone, Copy, Debug, PartialEq, Eq)]
 pub struct Deleted {
     /// How many rows were deleted.
@@ -39,7 +39,7 @@ fn delete_where(alloc: Global, store: &mut Store, condition: &str) -> Result<Del
     })
 }
 
-/// Deletes the rows of a file that aren't deleted and at which a condition is true, and writes the file anew where there are such.
+/// Deletes the rows of a file that aren't deleted and at which a condition is true, and writes the file anew if there are such.
 ///
 /// Refused are, in this order, what [`open`] refuses; `Syntax`, `NumberTooLarge` and `TooDeep`, the one whose token comes first;
 /// `NoSuchColumn`; `Memory`, which may come in the place of any of them; `WriteFault`. Only with the last anything is written: a front.
@@ -73,9 +73,9 @@ fn delete_range(
 }
 
 /// Deletes the rows of a batch of a file from the first to the ordinal `last`, both included, held there or not, and writes the
-/// file anew where one of them wasn't deleted.
+/// file anew if one of them wasn't deleted.
 ///
-/// Refused are, in this order, what [`open`] refuses; `BadName` where the batch's origin or number is 0; `BadRange` where `last` is
+/// Refused are, in this order, what [`open`] refuses; `BadName` if the batch's origin or number is 0; `BadRange` if `last` is
 /// less than the first ordinal; `Memory`, which may come in the place of any of them; `WriteFault`. Only with the last anything is
 /// written: a front.
 pub fn delete_rows<R: Read, W: Write>(

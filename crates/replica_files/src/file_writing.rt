@@ -1,4 +1,4 @@
-//! Writing a file anew where a command changed what it holds.
+//! Writing a file anew when a command changed what it holds.
 ghost use Rattle.std.specs.Prelude.{◌≡◌, IfErr, OnOk};
 ghost use Rattle.table_model.specs.Faults.{CountsWrites};
 ghost use Rattle.replica_files.specs.Commands.{Puts};
@@ -9,7 +9,7 @@ use std::alloc::Global;
 use std::io::Write;
 use table_model::{Counted, Refusal};
 
-/// Writes a store's canonical file where something changed, and else nothing. Refused are `Memory`, before anything is written, and
+/// Writes a store's canonical file if something changed, and else nothing. Refused are `Memory`, before anything is written, and
 /// `WriteFault`, after a front.
 pub(crate) fn write_changed<W: Write>(
     alloc: Global,

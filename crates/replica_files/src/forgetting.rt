@@ -12,7 +12,7 @@ use std::alloc::Global;
 use std::io::{Read, Write};
 use table_model::{Counted, Origin, Refusal};
 
-/// What a forget dropped. The file has changed where it dropped a batch.
+/// What a forget dropped. The file has changed if it dropped a batch.
 #[derive(Clone, Copy, Debug, PartialEq, Eq)]
 pub struct Forgotten {
     /// How many batches, at most 1,048,576.
@@ -35,7 +35,7 @@ pub fn forget_dead(alloc: Global, store: &mut Store) -> Result<Forgotten, Refusa
     })
 }
 
-/// Drops the batches of a file of which every row is deleted, and writes the file anew where there are such. Their deletions stay, so
+/// Drops the batches of a file of which every row is deleted, and writes the file anew if there are such. Their deletions stay, so
 /// that no query is answered otherwise, and a batch that comes again comes with its rows deleted.
 ///
 /// Refused are, in this order, what [`open`] refuses; `Memory`, which may come in the place of any of it; `WriteFault`. Only with the

@@ -14,7 +14,7 @@ use std::alloc::Global;
 use std::io::{Read, Write};
 use table_model::{BatchName, Counted, Origin, Refusal};
 
-/// What an import did. The file has changed where one of the batches is new.
+/// What an import did. The file has changed if one of the batches is new.
 #[derive(Clone, Copy, Debug, PartialEq, Eq)]
 pub struct Imported {
     /// How many batches the rows made.
@@ -60,11 +60,11 @@ pub fn import_load(
     })
 }
 
-/// Puts a load's batches into a file under consecutive names, and writes the file anew where one of them is new. The first name is
+/// Puts a load's batches into a file under consecutive names, and writes the file anew if one of them is new. The first name is
 /// the one that is given, or that of the first of some random words from which they all are free: proper, not held, and without a
 /// deleted row. A word's high 32 bits are the origin, and its low 31 bits, with 1 added, the number.
 ///
-/// Refused are, in this order, what [`open`] refuses; `BadName` where the given name isn't proper; `NumbersSpent` where the names go
+/// Refused are, in this order, what [`open`] refuses; `BadName` if the given name isn't proper; `NumbersSpent` if the names go
 /// past 4,294,967,295, or no word gives free ones; `SchemaDiffers`; `Conflict` with the least name that is held with other rows;
 /// `Full`; `Memory`, which may come in the place of any of them; `WriteFault`. Only with the last anything is written: a front.
 pub fn import<R: Read, W: Write>(

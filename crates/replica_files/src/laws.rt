@@ -15,7 +15,7 @@ pub fn file_laws()
 
 /// What a file represents is a set of operations, and it is the canonical file of the state that these make without some batches of
 /// which every row is deleted. Import, delete, delete-rows, apply, merge and pulls add to what a file represents what they add to what a
-/// file holds, where names agree over all of it; a forget adds nothing. So files that took the same inserts and deletes, in any order,
+/// file holds, if names agree over all of it; a forget adds nothing. So files that took the same inserts and deletes, in any order,
 /// with any repeats, merges, exchanges and forgets, answer each query alike, by its meaning over the rows not deleted; and once each
 /// has forgotten they have the same bytes.
 pub fn forget_file_laws()

@@ -100,7 +100,7 @@ fn field_at(fields: &[Field], index: usize) -> Field
     }
 }
 
-/// A count, or 0 where a field is none.
+/// A count, or 0 if a field is no count.
 fn whole_or_zero(field: Field) -> i128
     ensures { result ≡ whole_or_zero field }
 {

@@ -34,7 +34,7 @@ impl Model for Load {
 }
 
 impl Load {
-    /// A load without batches. `Memory` is answered where there is none for the schema.
+    /// A load without batches. `Memory` is answered if there is no memory for the schema.
     pub fn new(alloc: Global, schema: &Schema) -> Result<Load, Refusal>
         ensures { Gives (λ load. load) result (Ok (empty_load schema.now)) }
     {
@@ -47,7 +47,7 @@ impl Load {
 
     /// Codes rows as one more batch.
     ///
-    /// Refused are, in this order, the faults of [`check_rows`], `Full` where there are 1,048,576 batches, and `Memory`. A refused
+    /// Refused are, in this order, the faults of [`check_rows`], `Full` if there are 1,048,576 batches, and `Memory`. A refused
     /// call leaves the load as it was.
     pub fn add_batch(&mut self, alloc: Global, rows: &Rows) -> Result<(), Refusal>
         ensures { Acts (λ done. done) self.old result self.new (added_batch self.old rows.now) }

@@ -33,7 +33,7 @@ const KEYS: [&str; 11] = [
 
 const TEXTS: usize = 2;
 
-/// A value as it is written, and `-` where there is none.
+/// A value as it is written, and `-` if there is no value.
 fn figure_text(alloc: Global, field: Field) -> Result<String, AllocError>
     ensures { IfOk result (λ text. text.bytes.items ≡ figure_text field) }
 {

@@ -24,7 +24,7 @@ pub(crate) struct StoreCounts {
     pub bytes: u64,
 }
 
-/// The counts of a store. `Memory` is answered where there is none for the copies of segments that are not canonical.
+/// The counts of a store. `Memory` is answered if there is no memory for the copies of segments that are not canonical.
 pub(crate) fn store_counts(alloc: Global, store: &Store) -> Result<StoreCounts, Refusal>
     ensures counts { IfOk result (λ counts. AreCountsOf store.now.replica.state counts) }
     ensures refused { IfErr result (λ e. e ≡ Memory) }

@@ -44,7 +44,7 @@ impl Write for Length {
     }
 }
 
-/// How many bytes a store's canonical file has. `Memory` is answered where there is none for the copies of segments that aren't
+/// How many bytes a store's canonical file has. `Memory` is answered if there is no memory for the copies of segments that aren't
 /// canonical.
 pub(crate) fn file_bytes(alloc: Global, store: &Store) -> Result<u64, Refusal>
     ensures { IfErr result (λ e. e ≡ Memory) }

@@ -101,7 +101,7 @@ pub fn done(alloc: Global, file: &[u8], command: Command) -> Result<(Answer, Vec
     Ok((answer, writer.into_inner()))
 }
 
-/// The file after a command: what was written, or the file as it was where nothing was.
+/// The file after a command: what was written, or the file as it was if nothing was written.
 pub fn file_after(alloc: Global, file: &[u8], command: Command) -> Result<Vec<u8>, Refusal> {
     let (_, written) = done(alloc, file, command)?;
     if written.as_slice().is_empty() {

@@ -1,5 +1,5 @@
 //! Each command with a growth refused. A test's own growths are counted from 1: with the Nth refused, a test fails by an
-//! `AllocError` or `Memory` of its set-up, or, where it was a growth of the call that it is of, with the text `REFUSED` or `CHANGED`;
+//! `AllocError` or `Memory` of its set-up, or, if it was a growth of the call that it is of, with the text `REFUSED` or `CHANGED`;
 //! with none refused it passes. The command `tests/refused-memory` refuses each in turn and counts those texts.
 use crate::commands::{Command, file_of, loaded, row};
 use answer_formats::ReportForm;
@@ -25,7 +25,7 @@ fn is_empty(room: &[u8]) -> bool {
     room.iter().all(|byte| *byte == 0)
 }
 
-/// How a test of a call ends: where the call was refused for want of memory, whether nothing was written and nothing failed; else
+/// How a test of a call ends: if the call was refused for want of memory, whether nothing was written and nothing failed; else
 /// whether it is done.
 fn ends(outcome: Result<(), Refusal>, failures: (u64, u64), room: &[u8]) -> Result<(), Fail> {
     match outcome {

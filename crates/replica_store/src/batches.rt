@@ -505,7 +505,7 @@ fn held_at(entries: &[(BatchName, Segment)], name: BatchName) -> Option<usize>
     }
 }
 
-/// How many of the batches have names below this one: the place where it is, or where it would go.
+/// How many of the batches have names below this one: the place at which it is, or to which it would go.
 fn place(entries: &[(BatchName, Segment)], name: BatchName) -> usize
     requires { T (map.is_sorted name_cmp entries.now) }
     ensures { result ≡ count_below name_cmp name entries.now }

@@ -33,7 +33,7 @@ impl Model for Joined {
 }
 
 impl Joined {
-    /// The join of one store. `Memory` is answered if there is none.
+    /// The join of one store. `Memory` is answered if there is no memory.
     pub fn new(alloc: Global, base: Store) -> Result<Joined, Refusal>
         ensures { Gives (λ joined. joined) result (Ok base) }
     {
@@ -57,7 +57,7 @@ impl Joined {
         }
     }
 
-    /// The same as one store with nothing apart. `Memory` is answered if there is none.
+    /// The same as one store with nothing apart. `Memory` is answered if there is no memory.
     fn levelled(self, alloc: Global) -> Result<Joined, Refusal>
         ensures { Gives (λ joined. joined) result (Ok self) }
     {
@@ -65,7 +65,7 @@ impl Joined {
         Joined::new(alloc, whole)
     }
 
-    /// The store that has all of it. `Memory` is answered if there is none.
+    /// The store that has all of it. `Memory` is answered if there is no memory.
     pub fn into_store(self, alloc: Global) -> Result<Store, Refusal>
         ensures { Gives (λ store. store) result (Ok self) }
     {

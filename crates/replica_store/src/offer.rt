@@ -59,7 +59,7 @@ impl Offer {
 
     /// The store of an own origin that has exactly the batches and deletions of the offer.
     ///
-    /// `BadName` is answered if the origin is 0; otherwise `Memory`, if there is none for the set of names.
+    /// `BadName` is answered if the origin is 0; otherwise `Memory`, if there is no memory for the set of names.
     pub fn into_store(self, alloc: Global, own: Origin) -> Result<Store, Refusal>
         ensures value { Gives (λ store. store.replica) result (opened own self) }
         ensures segments { IfOk result (λ store. store.segments ≡ self.segments) }

@@ -62,7 +62,7 @@ impl Model for Store {
 impl Store {
     /// A store of the table with no batch, whose own batches will be of this origin.
     ///
-    /// `BadName` is answered if the origin is 0; otherwise `Memory`, if there is none.
+    /// `BadName` is answered if the origin is 0; otherwise `Memory`, if there is no memory.
     pub fn new(alloc: Global, schema: &Schema, own: Origin) -> Result<Store, Refusal>
         ensures value { Gives (λ store. store.replica) result (new_replica schema.now own) }
         ensures segments { IfOk result (λ store. store.segments ≡ map.empty) }
@@ -249,7 +249,7 @@ impl Store {
     /// Drops the batches of which every row is deleted. Their deletions stay, so these rows never come to life again, and no query
     /// is answered otherwise.
     ///
-    /// `Memory` is answered where there is none for the names of the batches that stay. Where no batch is dropped it takes none.
+    /// `Memory` is answered if there is no memory for the names of the batches that stay. If no batch is dropped it takes none.
     pub fn forget(&mut self, alloc: Global) -> Result<(), Refusal>
         ensures acts { Acts (λ done. done) self.old.replica result self.new.replica (forgotten_batches self.old.replica) }
         ensures segments { OnOk result (self.new.segments ≡ live_segments self.old.replica.state.deleted self.old.segments) }
@@ -423,7 +423,7 @@ impl Store {
         self.free_name()
     }
 
-    /// The name that the next batch of the own origin gets, or why there is none.
+    /// The name that the next batch of the own origin gets, or why there is no such name.
     fn free_name(&self) -> Result<BatchName, Refusal>
         ensures value { result ≡ number_after self.now.replica (greatest_number self.now.replica.own (entries_of self.now.replica)) }
         ensures proper { IfOk result (λ name. IsTrue (is_proper_name name)) }

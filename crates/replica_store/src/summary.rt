@@ -29,7 +29,7 @@ impl Model for Summary {
 }
 
 impl Summary {
-    /// The summary of a table without names. `Memory` is answered if there is none for the schema.
+    /// The summary of a table without names. `Memory` is answered if there is no memory for the schema.
     pub fn empty(alloc: Global, schema: &Schema) -> Result<Summary, Refusal>
         ensures { Gives (λ summary. summary) result (Ok (empty_summary schema.now)) }
     {

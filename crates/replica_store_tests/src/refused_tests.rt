@@ -1,9 +1,9 @@
 //! Calls of a store, each with a growth refused. A test's own growths are counted from 1: with the Nth refused, a test fails by
-//! an `AllocError` or `Memory` of its set-up, or, where it was a growth of the call that it is of, as `growth_refused` says; with
+//! an `AllocError` or `Memory` of its set-up, or, if it was a growth of the call that it is of, as `growth_refused` says; with
 //! none refused it passes. The command `tests/refused-memory` refuses each in turn and counts those texts.
 //!
-//! A function that makes a store, or drops one, is dear to prove on each of its ways out. So each call is made where the store is
-//! only lent, and what the call needs is made by one function for all calls that need the same.
+//! A function that makes a store, or drops one, is dear to prove on each of its ways out. So each call is made in a function to
+//! which the store is only lent, and what the call needs is made by one function for all calls that need the same.
 use crate::exchange_tests::{offer_after, summary_after};
 use crate::tests::{Deleted, OneColumn, Told, is_state, name, row_name, rows_of, told_store};
 use replica_store::{Offer, Store, Summary};
@@ -249,13 +249,13 @@ fn offer_beside(alloc: Global) -> Result<Offer, Refusal> {
     offer_after(alloc, BESIDE, &summary)
 }
 
-/// What came of an offer where the store of these tests applied it.
+/// What came of an offer when the store of these tests applied it.
 fn applied_to_held(alloc: Global, offer: &Offer) -> Result<Came, Refusal> {
     let mut store = told_store(alloc, 1, HELD)?;
     Ok(came_of_apply(alloc, &mut store, offer))
 }
 
-/// What came of that offer where it was applied.
+/// What came of that offer when it was applied.
 fn applied(alloc: Global) -> Result<Came, Refusal> {
     let offer = offer_beside(alloc)?;
     applied_to_held(alloc, &offer)
@@ -274,7 +274,7 @@ fn came_of_absorb(alloc: Global, store: &mut Store, offer: Offer) -> Came {
     }
 }
 
-/// What came of that offer where it was moved into the store of these tests.
+/// What came of that offer when it was moved into the store of these tests.
 fn absorbed(alloc: Global) -> Result<Came, Refusal> {
     let offer = offer_beside(alloc)?;
     let mut store = told_store(alloc, 1, HELD)?;

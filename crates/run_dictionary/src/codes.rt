@@ -19,7 +19,7 @@ fn mixed(value: i64) -> usize
 }
 
 /// Writes the values in their order without most of those that came before, and answers how many are left: a value is left out
-/// where it is the last one of its slot, of which there are 1024.
+/// if it is the last one of its slot, of which there are 1024.
 fn write_sights(values: &[i64; 1024], into: &mut [i64; 1024]) -> usize
     ensures some { 0 < result }
     ensures bound { result ≤ 1024 }
@@ -76,7 +76,7 @@ fn place_of(dictionary: &[i64], value: i64) -> usize
     }
 }
 
-/// For each mix of bits a guess where the values that have it are in the dictionary. A guess need not be right: it is tested.
+/// For each mix of bits a guess at the place in the dictionary of the values that have it. A guess need not be right: it is tested.
 fn guesses_for(dictionary: &[i64]) -> [u16; 4096]
     requires { length dictionary.now ≤ 1024 }
 {

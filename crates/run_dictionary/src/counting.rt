@@ -1,4 +1,4 @@
-//! How many distinct values a vector has, without a sort where their low sixteen bits tell them apart.
+//! How many distinct values a vector has, without a sort if their low sixteen bits tell them apart.
 ghost use Rattle.std.specs.Prelude.{◌≡◌, ◌==◌, ◌||◌, cond, ℕ, ◌+◌, ◌-◌, ◌*◌, ◌/◌, ◌<◌, ◌≤◌, ◌↔◌, IsSome, IfSome, IfNone, IsTrue, true, false, length, ℤ, pos, ◌≤ℤ◌, ◌+ℤ◌};
 ghost use Rattle.transpose_order.specs.Mask.{truth_at};
 ghost use Rattle.transpose_order.specs.Place.{IsLaneWidth};
@@ -23,7 +23,7 @@ impl Marks {
         Marks { words: [0; 1024] }
     }
 
-    /// Marks a number, and answers 1 where it was not marked before, and else 0.
+    /// Marks a number, and answers 1 if it was not marked before, and else 0.
     fn mark(&mut self, number: u16) -> usize
         ensures new { result ≡ cond (truth_at self.old.words number) 0 1 }
         ensures marked { (n : ℕ) → truth_at self.new.words n ≡ (n == number) || truth_at self.old.words n }
@@ -42,7 +42,7 @@ fn key_of(value: i64) -> u16
     (value.cast_unsigned() % 65_536) as u16
 }
 
-/// How many keys the values have, where these are no more than `limit`.
+/// How many keys the values have, if these are no more than `limit`.
 fn count_keys(values: &[i64; 1024], limit: usize) -> Option<usize>
     ensures some { IfSome result (λ count. count ≡ length (distinct (keys_of values.now))) }
     ensures within { IfSome result (λ count. count ≤ limit) }
@@ -75,7 +75,7 @@ fn are_near(values: &[i64; 1024]) -> bool
     gap(least, greatest) < 65_536
 }
 
-/// How many distinct values there are, where these are no more than `limit`. A vector has at least as many values as keys.
+/// How many distinct values there are, if these are no more than `limit`. A vector has at least as many values as keys.
 pub(crate) fn count_distinct_to(values: &[i64; 1024], limit: usize) -> Option<usize>
     ensures some { IfSome result (λ count. count ≡ length (distinct values.now)) }
     ensures none { IfNone result (limit < length (distinct values.now)) }

@@ -51,8 +51,8 @@ impl Dict {
         Self::size_below(values, lane_width, u16::MAX).unwrap()
     }
 
-    /// What `size` answers, where it is below a bound, and else `None`. Where there are more distinct values than a payload below
-    /// the bound has, it stops at the first that is too many; the values are sorted only where they span 65,536 numbers or more.
+    /// What `size` answers, if it is below a bound, and else `None`. If there are more distinct values than a payload below
+    /// the bound has, it stops at the first that is too many; the values are sorted only if they span 65,536 numbers or more.
     pub fn size_below(values: &[i64; 1024], lane_width: usize, bound: u16) -> Option<u16>
         requires lane_width { IsLaneWidth lane_width }
         requires fit { AreInRange lane_width values.now }
@@ -65,7 +65,7 @@ impl Dict {
     }
 
     /// Whether the least dictionary of 1024 values takes fewer bytes than a bound. Of the values it is given numbers that are
-    /// equal exactly where the values are, such as the packed numbers of a frame: number `16 * p + i` is that of row
+    /// equal exactly when the values are, such as the packed numbers of a frame: number `16 * p + i` is that of row
     /// `64 * i + p`. The lane width is 8, 16, 32 or 64. It stops at the first distinct number that is too many.
     pub fn is_below(lane_width: usize, numbers: &[u64; 1024], bound: u16) -> bool
         requires { IsLaneWidth lane_width }
@@ -77,7 +77,7 @@ impl Dict {
     }
 
     /// The least form of 1024 values: their distinct values, and the least width for the greatest code. The values, in row order,
-    /// are in the range of `lane_width` bits, signed, which are 8, 16, 32 or 64. Where memory is refused, an `AllocError`.
+    /// are in the range of `lane_width` bits, signed, which are 8, 16, 32 or 64. If memory is refused, an `AllocError`.
     pub fn encode(
         alloc: Global,
         values: &[i64; 1024],
@@ -208,7 +208,7 @@ impl Dict {
         width == width_of(count as u64 - 1) && all_used(codes, count)
     }
 
-    /// Writes the rows' codes by places: number `16 * p + i` is the code of row `64 * i + p`. Two codes are equal exactly where the
+    /// Writes the rows' codes by places: number `16 * p + i` is the code of row `64 * i + p`. Two codes are equal exactly when the
     /// rows' values are.
     pub fn write_codes(&self, codes: &mut [u64; 1024])
         ensures codes { (n : ℕ) → n < 1024 → by_place codes.new n ≡ code_at self.now n }
@@ -220,7 +220,7 @@ impl Dict {
             .unpack_by_places(self.codes.packed_width(), codes);
     }
 
-    /// The least and the greatest of the 1024 values, where this is the least form of them: the dictionary's first value and its
+    /// The least and the greatest of the 1024 values, if this is the least form of them: the dictionary's first value and its
     /// last.
     pub fn ends(&self) -> (i64, i64)
         requires { self.now ≡ least_dict self.now.lane_width (dict_values self.now) }
@@ -231,7 +231,7 @@ impl Dict {
         (self.values.get(0), self.values.get(self.values.len() - 1))
     }
 
-    /// The same vector in memory of its own. Where memory is refused, an `AllocError`.
+    /// The same vector in memory of its own. If memory is refused, an `AllocError`.
     pub fn copy(&self, alloc: Global) -> Result<Self, AllocError>
         ensures { IfOk result (λ coded. coded ≡ self.now) }
     {

@@ -1,4 +1,4 @@
-//! Where the runs of 1024 values start, and what they have.
+//! The rows at which the runs of 1024 values start, and what they have.
 ghost use Rattle.std.specs.Prelude.{◌≡◌, ◌≢◌, ◌==◌, ◌↔◌, ℕ, suc, ◌+◌, ◌-◌, ◌*◌, ◌<◌, ◌≤◌, ◌≤ℤ◌, true, false, IsTrue, min, take, length, slice_index_or, ℤ, pos};
 ghost use Rattle.std.specs.Int.{bit_at};
 ghost use Rattle.transpose_order.specs.Mask.{rows_of, has, count_below};

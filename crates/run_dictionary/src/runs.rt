@@ -1,4 +1,4 @@
-//! Run-length coding: where runs of equal values start, and the value of each.
+//! Run-length coding: the rows at which runs of equal values start, and the value of each.
 ghost use Rattle.std.specs.Prelude.{◌≡◌, ℕ, ◌+◌, ◌<◌, ◌≤◌, ◌≤ℤ◌, ◌↔◌, IsTrue, IfOk, false, ℤ, List, length, FitsSigned};
 ghost use Rattle.transpose_order.specs.Mask.{has};
 ghost use Rattle.transpose_order.specs.Place.{IsLaneWidth};
@@ -17,7 +17,7 @@ use std::alloc::{AllocError, Global};
 use std::marker::Model;
 use transpose_order::Mask;
 
-/// A vector of 1024 signed integers of 8, 16, 32 or 64 bits as runs of equal values: a mask of the rows after row 0 where a run
+/// A vector of 1024 signed integers of 8, 16, 32 or 64 bits as runs of equal values: a mask of the rows after row 0 at which a run
 /// starts, and the value of each run. It is in the manner of FastLanes (VLDB 2023), of its section on light-weight encodings;
 /// the payload, with a mask in row order, is our own.
 #[derive(Drop)]
@@ -48,7 +48,7 @@ impl Runs {
     }
 
     /// Whether the least runs of 1024 values take fewer bytes than a bound. Of the values it is given numbers that are equal
-    /// exactly where the values are, such as the packed numbers of a frame or the codes of a dictionary: number `16 * p + i` is
+    /// exactly when the values are, such as the packed numbers of a frame or the codes of a dictionary: number `16 * p + i` is
     /// that of row `64 * i + p`. The lane width is 8, 16, 32 or 64. It stops at the first change that is too many.
     pub fn is_below(lane_width: usize, numbers: &[u64; 1024], bound: u16) -> bool
         requires { IsLaneWidth lane_width }
@@ -60,8 +60,8 @@ impl Runs {
         !changes_reach(numbers, most)
     }
 
-    /// The least form of 1024 values: a run starts exactly where a value differs from the one before. The values, in row order,
-    /// are in the range of `lane_width` bits, signed, which are 8, 16, 32 or 64. Where memory is refused, an `AllocError`.
+    /// The least form of 1024 values: a run starts exactly when a value differs from the one before. The values, in row order,
+    /// are in the range of `lane_width` bits, signed, which are 8, 16, 32 or 64. If memory is refused, an `AllocError`.
     pub fn encode(
         alloc: Global,
         values: &[i64; 1024],
@@ -159,7 +159,7 @@ impl Runs {
         !more_values(&self.values, most)
     }
 
-    /// The same vector in memory of its own. Where memory is refused, an `AllocError`.
+    /// The same vector in memory of its own. If memory is refused, an `AllocError`.
     pub fn copy(&self, alloc: Global) -> Result<Self, AllocError>
         ensures { IfOk result (λ coded. coded ≡ self.now) }
     {
@@ -178,7 +178,7 @@ impl Runs {
         self.values.lane_width()
     }
 
-    /// The rows after row 0 where a run starts.
+    /// The rows after row 0 at which a run starts.
     pub fn starts(&self) -> &Mask
         ensures value { result.now ≡ self.now.starts }
         ensures form { IsRunForm self.now }

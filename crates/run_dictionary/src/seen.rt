@@ -1,4 +1,4 @@
-//! How many distinct numbers there are, without a sort where their keys tell.
+//! How many distinct numbers there are, without a sort if their keys tell.
 ghost use Rattle.std.specs.Prelude.{◌≡◌, ◌↔◌, ◌<◌, ◌≤◌, IsTrue, IfSome, IfNone, length, map, pos};
 ghost use Rattle.std.specs.List.{All};
 ghost use Rattle.run_dictionary.specs.Dict.{distinct};
@@ -8,7 +8,7 @@ use crate::codes::count_distinct;
 use crate::run_words::distinct_to_three;
 use bit_interleave::Values;
 
-/// The mark of a number: the number itself where it is below 4096. Numbers that have the same twelve low bits mostly have
+/// The mark of a number: the number itself if it is below 4096. Numbers that have the same twelve low bits mostly have
 /// different marks.
 fn mark_of(number: u64) -> usize
     ensures value { result ≡ mark_of number }
@@ -18,7 +18,7 @@ fn mark_of(number: u64) -> usize
     (number.wrapping_add(mixed) % 4096) as usize
 }
 
-/// How many marks the numbers have, where these are no more than `limit`.
+/// How many marks the numbers have, if these are no more than `limit`.
 fn count_marks(numbers: &[u64], limit: usize) -> Option<usize>
     requires { length numbers.now ≤ 1024 }
     ensures some { IfSome result (λ count. count ≡ length (distinct (marks_of numbers.now))) }
@@ -59,7 +59,7 @@ fn are_small(numbers: &[u64]) -> bool
 }
 
 /// Whether there are more distinct numbers than `limit`. It stops at the first mark that is too many, and the numbers are sorted
-/// only where their marks are no more than the limit and a number is 4096 or more.
+/// only if their marks are no more than the limit and a number is 4096 or more.
 pub(crate) fn more_distinct(numbers: &[u64], limit: usize) -> bool
     requires some { 0 < length numbers.now }
     requires many { length numbers.now ≤ 1024 }

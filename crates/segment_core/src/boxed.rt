@@ -28,7 +28,7 @@ impl<T> Boxed<T> {
 }
 
 impl<T: Drop> Boxed<T> {
-    /// The value, moved to the heap. Where memory is refused, an `AllocError`.
+    /// The value, moved to the heap. If memory is refused, an `AllocError`.
     pub fn new(alloc: Global, value: T) -> Result<Boxed<T>, AllocError>
         ensures { IfOk result (λ boxed. boxed ≡ value) }
     {

@@ -11,7 +11,7 @@ use crate::vectors::Vectors;
 use std::alloc::{AllocError, Global};
 use table_model::{Rows, Schema};
 
-/// The canonical vectors of each column of a table's rows. Where memory is refused, an `AllocError`.
+/// The canonical vectors of each column of a table's rows. If memory is refused, an `AllocError`.
 pub(crate) fn canonical_columns(
     alloc: Global,
     schema: &Schema,
@@ -31,7 +31,7 @@ pub(crate) fn canonical_columns(
 }
 
 /// The canonical vectors of a column of 1 to 65,536 rows, each with a value in the range of `lane_width` bits, signed, or null.
-/// Where memory is refused, an `AllocError`.
+/// If memory is refused, an `AllocError`.
 fn canonical_column(
     alloc: Global,
     lane_width: usize,
@@ -64,7 +64,7 @@ fn part_len(rows: &Rows, k: usize) -> usize
 }
 
 /// The canonical vector of the rows that vector `k` of a column covers, each with a value in the range of `lane_width` bits, signed,
-/// or null; their cells are written into `cells`, which has as many places. Where memory is refused, an `AllocError`.
+/// or null; their cells are written into `cells`, which has as many places. If memory is refused, an `AllocError`.
 fn canonical_part(
     alloc: Global,
     lane_width: usize,

@@ -16,7 +16,7 @@ struct Candidate {
 }
 
 impl Candidate {
-    /// A later candidate where it takes fewer bytes, else this one.
+    /// A later candidate if it takes fewer bytes, else this one.
     fn or_fewer(self, coding: Coding, bytes: u16) -> Candidate
         ensures coding { result.coding ≡ (if nat_lt bytes self.bytes then coding else self.coding) }
         ensures bytes { result.bytes ≡ (if nat_lt bytes self.bytes then bytes else self.bytes) }
@@ -28,7 +28,7 @@ impl Candidate {
         }
     }
 
-    /// The dictionary's coding where a size was found for it, which is smaller, else this one's.
+    /// The dictionary's coding if a size was found for it, which is smaller, else this one's.
     fn or_dictionary(self, smaller: Option<u16>) -> Coding
         ensures { result ≡ (if is_some smaller then Coding.Dict else self.coding) }
     {

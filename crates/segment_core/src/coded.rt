@@ -32,7 +32,7 @@ pub enum Coded {
 
 impl Coded {
     /// The least form that a coding has of 1024 values. The values, in row order, are in the range of `lane_width` bits, signed,
-    /// which are 8, 16, 32 or 64. Where memory is refused, an `AllocError`.
+    /// which are 8, 16, 32 or 64. If memory is refused, an `AllocError`.
     pub fn encode(
         alloc: Global,
         values: &[i64; 1024],
@@ -160,7 +160,7 @@ impl Coded {
         }
     }
 
-    /// The same values in the same coding, in memory of their own. Where memory is refused, an `AllocError`.
+    /// The same values in the same coding, in memory of their own. If memory is refused, an `AllocError`.
     pub fn copy(&self, alloc: Global) -> Result<Coded, AllocError>
         ensures { IfOk result (λ coded. coded ≡ self.now) }
     {

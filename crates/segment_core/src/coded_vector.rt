@@ -54,7 +54,7 @@ impl Model for CodedVector {
 }
 
 impl CodedVector {
-    /// The vector with these parts: 1 to 1024 rows, a null mask exactly where a row is null, which has no row past them, and
+    /// The vector with these parts: 1 to 1024 rows, a null mask exactly if a row is null, which has no row past them, and
     /// any values.
     pub fn from_parts(rows: u16, nulls: Option<Boxed<Mask>>, coded: Coded) -> CodedVector
         requires some { 1 ≤ rows }
@@ -122,7 +122,7 @@ impl CodedVector {
         }
     }
 
-    /// The value of a row that it covers, or none where the row is null.
+    /// The value of a row that it covers; None if the row is null.
     pub fn value(&self, row: usize) -> Option<i64>
         requires { row < self.now.rows }
         ensures { result ≡ vector_cell self.now row }
@@ -153,7 +153,7 @@ impl CodedVector {
     }
 
     /// The canonical vector of 1 to 1024 rows, of which a mask has those that are null, and values are at the others, in the
-    /// range of `lane_width` bits, signed, which are 8, 16, 32 or 64. Where memory is refused, an `AllocError`.
+    /// range of `lane_width` bits, signed, which are 8, 16, 32 or 64. If memory is refused, an `AllocError`.
     pub(crate) fn canonical(
         alloc: Global,
         lane_width: usize,
@@ -177,7 +177,7 @@ impl CodedVector {
     }
 
     /// The canonical vector of 1 to 1024 rows of which each has the same value, in the range of `lane_width` bits, signed, which are
-    /// 8, 16, 32 or 64: a frame without packed values. Where memory is refused, an `AllocError`.
+    /// 8, 16, 32 or 64: a frame without packed values. If memory is refused, an `AllocError`.
     pub(crate) fn constant(
         alloc: Global,
         lane_width: usize,
@@ -243,7 +243,7 @@ impl CodedVector {
         are_cells_of(&self.null_rows(), &values, cells)
     }
 
-    /// The same rows in another coding: the least form that the coding has of the filled vector. Where memory is refused, an
+    /// The same rows in another coding: the least form that the coding has of the filled vector. If memory is refused, an
     /// `AllocError`.
     pub fn recoded(&self, alloc: Global, coding: Coding) -> Result<CodedVector, AllocError>
         ensures value { IfOk result (λ vector. vector ≡ recoded_vector coding self.now) }
@@ -256,7 +256,7 @@ impl CodedVector {
         Ok(CodedVector { cover, coded })
     }
 
-    /// The canonical vector of the same cells. Where memory is refused, an `AllocError`.
+    /// The canonical vector of the same cells. If memory is refused, an `AllocError`.
     pub fn canonical_copy(&self, alloc: Global) -> Result<CodedVector, AllocError>
         ensures { IfOk result (λ vector. vector ≡ canonical_of self.now) }
     {
@@ -268,7 +268,7 @@ impl CodedVector {
         Ok(CodedVector { cover, coded })
     }
 
-    /// The same vector in memory of its own. Where memory is refused, an `AllocError`.
+    /// The same vector in memory of its own. If memory is refused, an `AllocError`.
     pub fn copy(&self, alloc: Global) -> Result<CodedVector, AllocError>
         ensures { IfOk result (λ vector. vector ≡ self.now) }
     {
@@ -278,7 +278,7 @@ impl CodedVector {
     }
 }
 
-/// The mask where it has a row, or none. Where memory is refused, an `AllocError`.
+/// The mask if it has a row, else None. If memory is refused, an `AllocError`.
 fn some_rows(alloc: Global, mask: &Mask) -> Result<Option<Boxed<Mask>>, AllocError>
     requires { length mask.now ≡ 1024 }
     ensures { IfOk result (λ made. made ≡ some_rows mask.now) }

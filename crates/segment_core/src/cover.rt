@@ -15,7 +15,7 @@ pub(crate) struct Cover {
     kept: Kept,
 }
 
-/// The number of rows lies next to the tag, where it takes no bytes that the tag doesn't take.
+/// The number of rows lies next to the tag, and there it takes no bytes that the tag doesn't take.
 #[derive(Drop)]
 enum Kept {
     Full(u16),
@@ -89,7 +89,7 @@ impl Cover {
         }
     }
 
-    /// The same rows, with a mask in memory of its own. Where memory is refused, an `AllocError`.
+    /// The same rows, with a mask in memory of its own. If memory is refused, an `AllocError`.
     pub(crate) fn copy(&self, alloc: Global) -> Result<Cover, AllocError>
         ensures { IfOk result (λ cover. cover ≡ self.now) }
     {

@@ -70,7 +70,7 @@ fn first_present(values: &[i64; 1024], rows: usize, nulls: &Mask) -> i64
     0
 }
 
-/// A row's own value where it has one, else the latest.
+/// A row's own value if it has one, else the latest.
 fn chosen(has_value: bool, value: i64, latest: i64) -> i64
     ensures { result ≡ (if has_value then value else latest) }
 {

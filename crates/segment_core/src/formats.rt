@@ -21,7 +21,7 @@ pub fn place_of(total: usize, rest: &[u8]) -> u64
 }
 
 /// The number of `size` bytes, 1 to 8, the lowest first, at the front of what is left of an input of `total` bytes, and what
-/// comes after it. `Truncated` where there are fewer bytes.
+/// comes after it. `Truncated` if there are fewer bytes.
 pub fn read_number(total: usize, bytes: &[u8], size: usize) -> Result<(u64, &[u8]), Refusal>
     requires low { 1 ≤ size }
     requires high { size ≤ 8 }
@@ -37,7 +37,7 @@ pub fn read_number(total: usize, bytes: &[u8], size: usize) -> Result<(u64, &[u8
 }
 
 /// The value of `lane_width` bits, 8, 16, 32 or 64, at the front of what is left of an input of `total` bytes, and what comes
-/// after it. `Truncated` where there are fewer bytes.
+/// after it. `Truncated` if there are fewer bytes.
 pub(crate) fn read_value(
     total: usize,
     bytes: &[u8],
@@ -53,7 +53,7 @@ pub(crate) fn read_value(
 }
 
 /// Words of `lane_width` bits, 8, 16, 32 or 64, that pack 1024 values of `width` bits, at most the lane width, at the front of
-/// what is left of an input of `total` bytes, and what comes after them. `Truncated` where there are fewer bytes.
+/// what is left of an input of `total` bytes, and what comes after them. `Truncated` if there are fewer bytes.
 #[tactic(auto, unfolding(crate::specs::VectorBytes::words))]
 pub(crate) fn read_words(
     alloc: Global,
@@ -80,7 +80,7 @@ pub(crate) fn read_words(
 const FEW_VALUES: usize = 64;
 
 /// A number of values of `lane_width` bits, 8, 16, 32 or 64, at most 1024, at the front of what is left of an input of `total` bytes,
-/// and what comes after them. `Truncated` where there are fewer bytes.
+/// and what comes after them. `Truncated` if there are fewer bytes.
 pub(crate) fn read_values(
     alloc: Global,
     total: usize,

@@ -11,7 +11,7 @@ use crate::coded_vector::CodedVector;
 use std::alloc::{AllocError, Global};
 use transpose_order::Mask;
 
-/// The canonical vector of 1 to 1024 cells, each null or in the range of `lane_width` bits, signed. Where memory is refused, an
+/// The canonical vector of 1 to 1024 cells, each null or in the range of `lane_width` bits, signed. If memory is refused, an
 /// `AllocError`.
 pub(crate) fn canonical_vector(
     alloc: Global,
@@ -32,7 +32,7 @@ pub(crate) fn canonical_vector(
     CodedVector::canonical(alloc, lane_width, cells.len() as u16, &nulls, &values)
 }
 
-/// The value that each of some cells has, where none is null and no two differ.
+/// The value that each of some cells has, if none is null and no two differ.
 fn only_value(cells: &[Option<i128>]) -> Option<i64>
     requires some { 1 ≤ length cells.now }
     requires fit { AreCellsInRange 64 cells.now }

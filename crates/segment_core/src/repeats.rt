@@ -39,7 +39,7 @@ impl RepeatingRows {
         }
     }
 
-    /// Whether 1024 values in row order repeat so, and the first is 0 where no row has a value.
+    /// Whether 1024 values in row order repeat so, and the first is 0 if no row has a value.
     pub(crate) fn hold_among(&self, values: &[i64; 1024]) -> bool
         ensures { IsTrue result ↔ Repeats self.now.rows self.now.valueless values.now }
     {
@@ -96,7 +96,7 @@ fn repeat_at_places(words: &[u64; 16], numbers: &[u64; 1024]) -> bool
     are_zero(&breaks)
 }
 
-/// Makes the number of a word other than 0 where its row at a place, from 1 on, is marked and differs from the row before.
+/// Makes the number of a word other than 0 if its row at a place, from 1 on, is marked and differs from the row before.
 #[inline(always)]
 fn add_breaks(words: &[u64; 16], numbers: &[u64; 1024], place: usize, breaks: &mut [u64; 16])
     requires later { 0 < place }
@@ -111,7 +111,7 @@ fn add_breaks(words: &[u64; 16], numbers: &[u64; 1024], place: usize, breaks: &m
     }
 }
 
-/// A number, which is or becomes other than 0 where a row is marked, by 1, and differs from the row before.
+/// A number, which is or becomes other than 0 if a row is marked, by 1, and differs from the row before.
 #[inline(always)]
 fn with_break(breaks: u64, marked: u64, number: u64, before: u64) -> u64
     requires { marked < 2 }

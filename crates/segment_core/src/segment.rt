@@ -94,7 +94,7 @@ impl Segment {
         self.columns.get(column)?.as_slice().get(vector)
     }
 
-    /// A vector in another coding, or the refusal where there is none.
+    /// A vector in another coding, or the refusal if there is no such vector.
     fn recoded(
         &self,
         alloc: Global,
@@ -167,7 +167,7 @@ impl Segment {
         self.vector(column, vector).coding()
     }
 
-    /// The value of a row in a column, or none where it is null. Ordinals and columns count from 0.
+    /// The value of a row in a column; None if it is null. Ordinals and columns count from 0.
     pub fn value(&self, ordinal: usize, column: usize) -> Option<i64>
         requires ordinal { ordinal < length self.now.rows }
         requires column { column < length self.now.forms }
@@ -177,7 +177,7 @@ impl Segment {
         vectors[ordinal / 1024].value(ordinal % 1024)
     }
 
-    /// Whether each vector is the canonical one of its rows, as `build` makes it. It takes no memory, and where `build`,
+    /// Whether each vector is the canonical one of its rows, as `build` makes it. It takes no memory, and if `build`,
     /// `canonical_copy` or `judge` made it known, no vector is read.
     pub fn canonical(&self) -> bool
         ensures { IsTrue result ↔ (self.now.forms ≡ canonical_forms (widths_in self.now.forms) self.now.rows) }
@@ -224,7 +224,7 @@ impl Segment {
         have_cells(self.columns.as_slice(), rows)
     }
 
-    /// The same segment in memory of its own, codings included. Where memory is refused, an `AllocError`.
+    /// The same segment in memory of its own, codings included. If memory is refused, an `AllocError`.
     pub fn copy(&self, alloc: Global) -> Result<Segment, AllocError>
         ensures { IfOk result (λ s. s ≡ self.now) }
     {
@@ -236,7 +236,7 @@ impl Segment {
         })
     }
 
-    /// The canonical segment of the same rows, as `build` makes it, in memory of its own. No rows are made. Where memory is
+    /// The canonical segment of the same rows, as `build` makes it, in memory of its own. No rows are made. If memory is
     /// refused, an `AllocError`.
     pub fn canonical_copy(&self, alloc: Global) -> Result<Segment, AllocError>
         ensures value { IfOk result (λ s. s ≡ canonical_again self.now) }
@@ -261,7 +261,7 @@ impl Segment {
     }
 }
 
-/// The same columns in memory of their own. Where memory is refused, an `AllocError`.
+/// The same columns in memory of their own. If memory is refused, an `AllocError`.
 fn copied_columns(alloc: Global, columns: &[Vectors]) -> Result<Vec<Vectors>, AllocError>
     ensures { IfOk result (λ copied. copied.items ≡ columns.now) }
 {
@@ -272,7 +272,7 @@ fn copied_columns(alloc: Global, columns: &[Vectors]) -> Result<Vec<Vectors>, Al
     Ok(copied)
 }
 
-/// The canonical vectors of each column's own cells. Where memory is refused, an `AllocError`.
+/// The canonical vectors of each column's own cells. If memory is refused, an `AllocError`.
 fn canonical_copies(alloc: Global, columns: &[Vectors]) -> Result<Vec<Vectors>, AllocError>
     ensures { IfOk result (λ made. made.items ≡ map canonical_vectors columns.now) }
 {

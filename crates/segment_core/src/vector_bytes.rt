@@ -34,7 +34,7 @@ pub(crate) struct Header {
 /// How many bytes a mask takes.
 const MASK_BYTES: usize = 128;
 
-/// The mask of the 128 bytes at the front. `Truncated` where there are fewer bytes.
+/// The mask of the 128 bytes at the front. `Truncated` if there are fewer bytes.
 #[tactic(auto, unfolding(crate::specs::VectorBytes::mask))]
 fn read_mask(total: usize, bytes: &[u8]) -> Result<Mask, Refusal>
     ensures read { Reads (λ x. (x, drop 128 bytes.now)) result (mask.read total bytes.now) }
@@ -84,7 +84,7 @@ fn read_null_mask(total: usize, bytes: &[u8], rows: usize) -> Result<Mask, Refus
     Ok(nulls)
 }
 
-/// The null flag at the front and the null mask where it is 1, and what comes after them.
+/// The null flag at the front, the null mask if the flag is 1, and what comes after them.
 #[tactic(auto, unfolding(crate::specs::VectorBytes::nulls))]
 fn read_nulls(
     alloc: Global,

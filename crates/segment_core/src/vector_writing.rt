@@ -119,7 +119,7 @@ fn write_coded<W: Write>(writer: &mut Counted<W>, form: &Coded) -> Result<(), Re
     write_payload(writer, form)
 }
 
-/// Writes a null flag, and the null mask where there is one.
+/// Writes a null flag, and the null mask if there is one.
 fn write_nulls<W: Write>(
     writer: &mut Counted<W>,
     found: Option<&Mask>,

@@ -60,7 +60,7 @@ impl Vectors {
         same_cells(self.vectors.as_slice(), other.as_slice())
     }
 
-    /// The same vectors in memory of their own. Where memory is refused, an `AllocError`.
+    /// The same vectors in memory of their own. If memory is refused, an `AllocError`.
     pub fn copy(&self, alloc: Global) -> Result<Vectors, AllocError>
         ensures { IfOk result (λ column. column ≡ self.now) }
     {
@@ -68,7 +68,7 @@ impl Vectors {
         Ok(Vectors { vectors })
     }
 
-    /// The canonical vectors of the same cells. Where memory is refused, an `AllocError`.
+    /// The canonical vectors of the same cells. If memory is refused, an `AllocError`.
     pub fn canonical_copy(&self, alloc: Global) -> Result<Vectors, AllocError>
         ensures { IfOk result (λ column. column ≡ canonical_vectors self.now) }
     {
@@ -77,7 +77,7 @@ impl Vectors {
     }
 }
 
-/// The same vectors in memory of their own. Where memory is refused, an `AllocError`.
+/// The same vectors in memory of their own. If memory is refused, an `AllocError`.
 fn copied_vectors(alloc: Global, vectors: &[CodedVector]) -> Result<Vec<CodedVector>, AllocError>
     ensures { IfOk result (λ copied. copied.items ≡ vectors.now) }
 {
@@ -88,7 +88,7 @@ fn copied_vectors(alloc: Global, vectors: &[CodedVector]) -> Result<Vec<CodedVec
     Ok(copied)
 }
 
-/// The canonical vectors of the same cells. Where memory is refused, an `AllocError`.
+/// The canonical vectors of the same cells. If memory is refused, an `AllocError`.
 fn canonical_copies(alloc: Global, vectors: &[CodedVector]) -> Result<Vec<CodedVector>, AllocError>
     ensures { IfOk result (λ made. made.items ≡ canonical_vectors vectors.now) }
 {

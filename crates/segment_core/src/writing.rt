@@ -12,7 +12,7 @@ use std::io::Write;
 use table_model::{Counted, Refusal};
 use transpose_order::Mask;
 
-/// Writes all bytes. Where a write fails, `WriteFault`; a front of them was written then.
+/// Writes all bytes. `WriteFault` if a write fails; a front of them was written then.
 pub fn write_whole<W: Write>(writer: &mut Counted<W>, bytes: &[u8]) -> Result<(), Refusal>
     ensures { Writes result (W.contents writer.old.0) (W.contents writer.new.0) writer.old.1 writer.new.1 bytes.now }
 {

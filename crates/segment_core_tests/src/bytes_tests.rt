@@ -170,7 +170,7 @@ fn three_read(alloc: Global, bytes: &[u8]) -> Result<(Segment, usize), Refusal> 
     Segment::read_bytes(alloc, &schema, 1025, bytes, 0)
 }
 
-/// What writing a segment answers, what was written and how often the writer failed, where the writer passes so many bytes on.
+/// What writing a segment answers, what was written and how often the writer failed, when the writer passes so many bytes on.
 fn written_until(
     alloc: Global,
     segment: &Segment,
@@ -186,7 +186,7 @@ fn written_until(
     (outcome, inner, failures)
 }
 
-/// Whether a segment with these bytes is written so far as a writer passes bytes on, and refused once where that is not to the end.
+/// Whether a segment with these bytes is written so far as a writer passes bytes on, and refused once if that is not to the end.
 fn stops_at(alloc: Global, segment: &Segment, bytes: &[u8], left: usize) -> bool {
     let (outcome, written, failures) = written_until(alloc, segment, left);
     let ends = if left < bytes.len() {

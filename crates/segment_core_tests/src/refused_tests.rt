@@ -1,5 +1,5 @@
 //! Calls that grow, each with a growth refused. A test's own growths are counted from 1: with the Nth refused, a test fails by an
-//! `AllocError` or `Memory` of its set-up, or, where it was a growth of the call that it is of, as `growth_refused` says; with
+//! `AllocError` or `Memory` of its set-up, or, if it was a growth of the call that it is of, as `growth_refused` says; with
 //! none refused it passes. The command `tests/refused-memory` refuses each in turn and counts those texts.
 use crate::tests::{first, rows_with};
 use segment_core::{CodedVector, Coding, Segment};
@@ -47,7 +47,7 @@ fn two_rows(
     Segment::read_bytes(alloc, &schema, 2, bytes, 0)
 }
 
-/// Two rows are read from their bytes, to the end, and where that is refused there is no segment.
+/// Two rows are read from their bytes, to the end, and if that is refused there is no segment.
 fn is_read(alloc: Global, column_type: ColType, bytes: &[u8]) -> Result<(), Fail> {
     let schema = column_of(alloc, column_type)?;
     match Segment::read_bytes(alloc, &schema, 2, bytes, 0) {
@@ -65,7 +65,7 @@ fn a_refused_read_of_a_dictionary_gives_no_segment(rt: HostRuntime) -> Result<()
     is_read(rt.alloc(), ColType::SmallInt, &dictionary_bytes())
 }
 
-/// Two rows that stood in bytes are copied, and left as they were where that is refused.
+/// Two rows that stood in bytes are copied, and left as they were if that is refused.
 fn is_copied(rt: &impl Abort, alloc: Global, bytes: &[u8]) -> Result<(), Fail> {
     let (segment, _) = two_rows(alloc, ColType::SmallInt, bytes)?;
     let before = bytes_of(&segment)?;
@@ -84,7 +84,7 @@ fn a_refused_copy_of_a_dictionary_leaves_its_source(rt: HostRuntime) -> Result<(
     is_copied(&rt, rt.alloc(), &dictionary_bytes())
 }
 
-/// Two rows that stood in bytes have a canonical copy, and are left as they were where that is refused.
+/// Two rows that stood in bytes have a canonical copy, and are left as they were if that is refused.
 fn is_copied_canonically(rt: &impl Abort, alloc: Global, bytes: &[u8]) -> Result<(), Fail> {
     let (segment, _) = two_rows(alloc, ColType::SmallInt, bytes)?;
     let before = bytes_of(&segment)?;
@@ -103,7 +103,7 @@ fn a_refused_canonical_copy_of_a_dictionary_leaves_its_source(rt: HostRuntime) -
     is_copied_canonically(&rt, rt.alloc(), &dictionary_bytes())
 }
 
-/// A segment recoded, and what is left of it where that is refused.
+/// A segment recoded, and what is left of it if that is refused.
 fn is_recoded(
     rt: &impl Abort,
     alloc: Global,
@@ -143,7 +143,7 @@ fn has_built(built: &Result<Segment, AllocError>, rows: &Rows) -> bool {
     }
 }
 
-/// A segment is built of rows, whose first vector has a coding and so many bytes, and where that is refused there is none.
+/// A segment is built of rows, whose first vector has a coding and so many bytes, and if that is refused there is no segment.
 fn is_built(
     rt: &impl Abort,
     alloc: Global,
@@ -209,7 +209,7 @@ fn has_copied(copied: &Result<CodedVector, AllocError>, coding: Coding) -> bool 
     }
 }
 
-/// The vector of two rows that stood in bytes is copied, and left as it was where that is refused.
+/// The vector of two rows that stood in bytes is copied, and left as it was if that is refused.
 fn is_vector_copied(
     rt: &impl Abort,
     alloc: Global,

@@ -24,7 +24,7 @@ pub(crate) fn store_of(
     Ok(store)
 }
 
-/// So many rows of one column: 0 each, or from 1 on where they differ.
+/// So many rows of one column: 0 each, or from 1 on if they differ.
 fn numbered_rows(alloc: Global, count: usize, differ: bool) -> Result<Rows, AllocError> {
     let mut rows = Rows::new(alloc);
     for n in 0..count {

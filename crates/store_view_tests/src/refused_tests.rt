@@ -1,5 +1,5 @@
 //! Queries over a store, each with a growth refused. A test's own growths are counted from 1: with the Nth refused, a test fails
-//! by an `AllocError` or `Memory` of its set-up, or, where it was a growth of the call that it is of, as `growth_refused` says;
+//! by an `AllocError` or `Memory` of its set-up, or, if it was a growth of the call that it is of, as `growth_refused` says;
 //! with none refused it passes. The command `tests/refused-memory` refuses each in turn and counts those texts.
 use query_eval::{answer, matching, text};
 use query_parser::{parse, parse_condition, resolve};

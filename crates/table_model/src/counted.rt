@@ -83,7 +83,7 @@ impl<D: Write> Counted<D> {
         outcome
     }
 
-    /// Writes all bytes, in as many writes as it takes. Where a write fails, `WriteFault`; what was written is then a front of
+    /// Writes all bytes, in as many writes as it takes. If a write fails, `WriteFault`; what was written is then a front of
     /// the bytes.
     pub fn write_whole(&mut self, bytes: &[u8]) -> Result<(), Refusal>
         ensures ok { OnOk result (Appends (D.contents self.old.0) (D.contents self.new.0) bytes.now) }

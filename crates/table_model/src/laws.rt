@@ -19,7 +19,7 @@ pub fn operation_laws()
     ensures { OperationLaws }
 {}
 
-/// Two schemas, or two lists of rows, pass the test of sameness exactly where they are equal.
+/// Two schemas, or two lists of rows, pass the test of sameness exactly when they are equal.
 pub fn sameness_laws()
     ensures { SamenessLaws }
 {}

@@ -41,7 +41,7 @@ impl Op {
         }
     }
 
-    /// The comparison of two cells: unknown where one of them is null.
+    /// The comparison of two cells: unknown if one of them is null.
     pub fn compare(self, left: Option<i128>, right: Option<i128>) -> Truth
         ensures { result ≡ comparison self left right }
     {
@@ -51,7 +51,7 @@ impl Op {
         }
     }
 
-    /// The comparison that holds of two numbers where this one holds of them by turns: `<` is turned into `>`.
+    /// The comparison that holds of two numbers if this one holds of them the other way round: `<` is turned into `>`.
     pub fn turned(self) -> Op
         ensures numbers { (left right : ℤ) → compared result right left ≡ compared self left right }
         ensures cells { (left right : Option ℤ) → comparison result right left ≡ comparison self left right }
@@ -66,8 +66,8 @@ impl Op {
         }
     }
 
-    /// The comparison of two fields of an answer: in millionths where one of them is a number of millionths, and unknown
-    /// where one is null.
+    /// The comparison of two fields of an answer: in millionths if one of them is a number of millionths, and unknown
+    /// if one is null.
     pub fn compare_fields(self, left: Field, right: Field) -> Truth
         requires left { FitsMillionths left }
         requires right { FitsMillionths right }

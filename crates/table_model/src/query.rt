@@ -72,7 +72,7 @@ impl Literals {
     }
 }
 
-/// A column that a query names, and the byte offset in the query's text where it does.
+/// A column that a query names, and the byte offset in the query's text at which it does.
 #[derive(Drop)]
 pub struct ColumnMention {
     pub name: Name,
@@ -244,7 +244,7 @@ pub struct Query {
     pub table: Name,
     /// The condition of WHERE.
     pub filter: Option<Condition>,
-    /// The columns of GROUP BY, from the left; none where it is absent.
+    /// The columns of GROUP BY, from the left; none if it is absent.
     pub grouping: Vec<ColumnMention>,
     /// The condition of HAVING.
     pub having: Option<Condition>,

@@ -113,7 +113,7 @@ fn row_at<'a>(cells: &'a [Option<i128>], ends: &[usize], ordinal: usize) -> &'a 
     &cells[start..end]
 }
 
-/// Where the row with an ordinal starts and ends among `count` cells, by the rows' ends.
+/// The start and the end of the row with an ordinal among `count` cells, by the rows' ends.
 fn bounds_of(count: usize, ends: &[usize], ordinal: usize) -> (usize, usize)
     requires ends { AreEnds 0 ends.now count }
     requires row { ordinal < length ends.now }
@@ -125,7 +125,7 @@ fn bounds_of(count: usize, ends: &[usize], ordinal: usize) -> (usize, usize)
     (start_of(ends, ordinal), ends[ordinal])
 }
 
-/// Where the row with an ordinal starts among the cells, by the rows' ends.
+/// The start of the row with an ordinal among the cells, by the rows' ends.
 fn start_of(ends: &[usize], ordinal: usize) -> usize
     requires { ordinal < length ends.now }
     ensures { result ≡ slice_index_or (0 ∷ ends.now) ordinal 0 }

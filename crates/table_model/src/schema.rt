@@ -173,8 +173,8 @@ impl Model for Schema {
 impl Schema {
     /// The schema of a table's name and its columns, names being folded to upper case.
     ///
-    /// `BadSchema` is answered where there are not 1 to 32 columns, where a name is no identifier or is a keyword, and where
-    /// two column names are equal once folded; else `Memory`, where there is none.
+    /// `BadSchema` is answered if there are not 1 to 32 columns, if a name is no identifier or is a keyword, and if
+    /// two column names are equal once folded. Else `Memory` is answered if there is no memory.
     pub fn new(alloc: Global, table: &str, columns: &[(&str, ColType)]) -> Result<Schema, Refusal>
         ensures { Gives (λ schema. schema) result (schema_of table.now (map (λ c. (c.0.now, c.1)) columns.now)) }
     {

@@ -14,7 +14,7 @@ pub enum Truth {
 }
 
 impl Truth {
-    /// True where the fact holds, else false.
+    /// True if the fact holds, else false.
     pub fn from_bool(holds: bool) -> Truth
         ensures { result ≡ truth_of holds }
     {

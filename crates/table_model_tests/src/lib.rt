@@ -1,4 +1,4 @@
-//! Tests of table_model: the texts of refusals, counted reads and writes, and where a growth is refused.
+//! Tests of table_model: the texts of refusals, counted reads and writes, and calls with a growth refused.
 #![tactic(auto)]
 
 #[cfg(test)]

@@ -1,4 +1,4 @@
-//! Where shares of about equal bytes begin.
+//! The places at which shares of about equal bytes begin.
 ghost use Rattle.std.specs.Prelude.{◌≡◌, ◌≤◌, ◌<◌, ◌-◌, true};
 ghost use Rattle.std.specs.FinMap as map;
 
@@ -33,7 +33,7 @@ impl Division {
         }
     }
 
-    /// Whether the batch at a place, before which there are so many bytes, begins the next share, where so many have begun: if these
+    /// Whether the batch at a place, before which there are so many bytes, begins the next share, when so many have begun: if these
     /// have their part of all bytes, or if each batch that is left has to begin one.
     pub fn begins(&self, begun: usize, place: usize, before: u64) -> bool
         ensures more { result ≡ true → begun < self.now.shares }

@@ -162,7 +162,7 @@ impl Mask {
         count_rows(&self.words, end)
     }
 
-    /// The first true row at or after `from`, which is at most 1024, or 1024 if there is none.
+    /// The first true row at or after `from`, which is at most 1024, or 1024 if there is no such row.
     pub fn next_true(&self, from: usize) -> usize
         requires { from ≤ 1024 }
         ensures order { from ≤ result }

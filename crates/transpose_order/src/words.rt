@@ -85,7 +85,7 @@ pub(crate) fn count_rows(words: &[u64; 16], end: usize) -> usize
     count + rest.count_ones() as usize
 }
 
-/// The first true row at or after `from`, or 1024 if there is none.
+/// The first true row at or after `from`, or 1024 if there is no such row.
 pub(crate) fn next_row(words: &[u64; 16], from: usize) -> usize
     requires { from ≤ 1024 }
     ensures order { from ≤ result }

@@ -263,7 +263,7 @@ fn primary_at(schema: &Schema, plan: &Plan, group: &FinishedGroup, primary: &Pri
     }
 }
 
-/// Whether HAVING keeps a group: its condition is true there, or there is none.
+/// Whether HAVING keeps a group: its condition is true there, or there is no condition.
 pub fn is_kept(
     schema: &Schema,
     plan: &Plan,

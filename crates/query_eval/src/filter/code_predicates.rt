@@ -22,7 +22,7 @@ fn is_literal(key: i64, literal: i128) -> bool
     i128::from(key) == literal
 }
 
-/// The code below the count whose key is a literal, or `None` if there is none.
+/// The code below the count whose key is a literal, or `None` if there is no such code.
 fn code_of(keys: &[i64; 1024], count: usize, literal: i128) -> Option<usize>
     requires { count ≤ 1024 }
     ensures within { IfSome result (λ code. code < count) }

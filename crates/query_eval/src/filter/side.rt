@@ -74,7 +74,7 @@ pub fn compare_sides<C: Columns>(
     }
 }
 
-/// Where a side is null, at the rows of a mask.
+/// Whether a side is null, at the rows of a mask.
 pub fn null_rows<C: Columns>(columns: &C, id: VectorId, side: Side, mask: &Mask) -> Pair
     requires there { IsThere (C.seen columns.now).state id.batch id.vector }
     requires column { HasColumn (C.seen columns.now).table side }
@@ -109,7 +109,7 @@ pub fn compare_operands<C: Columns>(
     compare_sides(columns, id, left, op, right, mask)
 }
 
-/// Where an operand of WHERE is null, at the rows of a mask. It takes no pass.
+/// Whether an operand of WHERE is null, at the rows of a mask. It takes no pass.
 pub fn null_operand<C: Columns>(columns: &C, id: VectorId, operand: &Operand, mask: &Mask) -> Pair
     requires { IsThere (C.seen columns.now).state id.batch id.vector }
     ensures { IsPair mask.now (λ n. truth_of (is_null (operand_seen (C.seen columns.now) id operand.now n))) result }

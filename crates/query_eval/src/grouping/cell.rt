@@ -90,7 +90,7 @@ impl Default for Cell {
     }
 }
 
-/// Cells are the same if their numbers are, where null equals null.
+/// Cells are the same if their numbers are. Null equals null.
 impl PartialEq for Cell {
     ghost eq = { option_eq int_eq };
 

@@ -68,7 +68,7 @@ impl KeyColumn {
         }
     }
 
-    /// The rows where the cell may differ from that of the row before: where the value differs, or one of the two is null.
+    /// The rows at which the cell may differ from that of the row before: when the value differs, or one of the two is null.
     pub fn changes(&self) -> Mask
         ensures { (n : ℕ) → n + 1 < 1024 → has result (n + 1) ≡ false → key_cell self.now (n + 1) ≡ key_cell self.now n }
     {

@@ -27,7 +27,7 @@ pub struct Places {
     null: Option<usize>,
 }
 
-/// Where a value's place is remembered, below 1024.
+/// The slot in which a value's place is remembered, below 1024.
 fn slot_of(value: i64) -> usize {
     let [low, high, ..] = value.to_le_bytes();
     usize::from(low) + 256 * usize::from(high % 4)

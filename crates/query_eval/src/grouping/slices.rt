@@ -73,7 +73,7 @@ fn place_of(
     Ok(place)
 }
 
-/// The rows where a key may differ from that of the row before.
+/// The rows at which a key may differ from that of the row before.
 fn changes_in(columns: &[KeyColumn]) -> Mask
     ensures { (n : ℕ) → n + 1 < 1024 → has result (n + 1) ≡ false → column_key columns.now (n + 1) ≡ column_key columns.now n }
 {
@@ -111,7 +111,7 @@ fn is_worth(slices: usize, rows: usize) -> bool {
     slices < TRIED_SLICES || slices.saturating_mul(WORTH_ROWS) <= rows
 }
 
-/// Makes spans of the rows of a mask by runs, and gives the rows that are in none. A run ends where the key can change.
+/// Makes spans of the rows of a mask by runs, and gives the rows that are in none. A run ends when the key can change.
 fn slice_runs(
     alloc: Global,
     places: &mut Places,

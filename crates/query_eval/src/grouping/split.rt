@@ -61,7 +61,7 @@ impl Split {
         }
     }
 
-    /// Splits the kept rows by the runs of one column, given by the rows where they start, and their values.
+    /// Splits the kept rows by the runs of one column, given by the rows at which they start, and their values.
     fn by_runs(
         &mut self,
         alloc: Global,

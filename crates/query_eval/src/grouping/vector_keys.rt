@@ -12,7 +12,7 @@ use crate::grouping::key_columns::{KeyColumn, read_columns};
 use std::alloc::AllocError;
 use transpose_order::Mask;
 
-/// How the keys of a vector's rows are known: by the runs of one grouping column, given by the rows where they start, and their
+/// How the keys of a vector's rows are known: by the runs of one grouping column, given by the rows at which they start, and their
 /// values; by codes of the rows and how many of them represent values; or by the decoded columns.
 #[derive(Clone, Copy, Debug)]
 pub enum VectorKeys {

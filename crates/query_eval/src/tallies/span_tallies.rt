@@ -157,7 +157,7 @@ fn sum_many_spans(
     }
 }
 
-/// The greatest number from row `first` up to `end`, or the least number if there is none.
+/// The greatest number from row `first` up to `end`, or the least number if there is no such row.
 #[inline(always)]
 fn top_between(shown: &[i64; 1024], first: usize, end: usize) -> i64
     requires order { first ≤ end }
