@@ -20,8 +20,9 @@ use Rattle.replica_store.specs.Exchange.{OfferForm, offering, applied}
 use Rattle.replica_store.specs.Replica.{Replica, merged}
 use Rattle.replica_store.specs.Segments.{Entry, rows_in, rows_entries}
 use Rattle.replica_store.proofs.RowsIn.{entries-rows_in}
+use Rattle.replica_store.specs.Forgets.{row_count}
 use Rattle.replica_files.specs.Commands.{Made, Makes}
-use Rattle.replica_files.specs.Loads.{LoadForm, named_batches, named_entries, loaded, first_name, named_by, is_free, first_free, or_spent, chosen_name, new_since, name_of_some, row_count, imported_as, importing_as, importing, is_one_of}
+use Rattle.replica_files.specs.Loads.{LoadForm, named_batches, named_entries, loaded, first_name, named_by, is_free, first_free, or_spent, chosen_name, new_since, name_of_some, imported_as, importing_as, importing, is_one_of}
 use Rattle.replica_files.specs.Refusals.{is_refusal_of_import, is_refusal_of_merge}
 use Rattle.replica_files.specs.declared.importing.Imported.{Imported}
 use Rattle.replica_files.proofs.StoreCommands.{merge_kept}
