@@ -1,6 +1,6 @@
 -- Version 1 accepted what it wrote: its formats are lawful, and what has bytes in this version, without a column of 8 bits and with as few
 -- batches, had bytes in version 1.
-use Rattle.std.proofs.Common.{◌≡◌, ℕ, ◌≤◌, ◌&&◌, true, false, eqb, leb, List, [], length, map, codes, Some, Result, Ok, refl, sym, ap, subst, ◌∙◌, arith, lit<}
+use Rattle.std.proofs.Common.{◌≡◌, ℕ, ◌≤◌, ◌&&◌, true, false, eqb, leb, List, [], ◌++◌, length, map, codes, Some, Result, Ok, refl, sym, ap, subst, ◌∙◌, arith, lit<}
 use Rattle.std.specs.FinMap as finite
 use Rattle.std.specs.FinMap.Entries.{is_sorted}
 use Rattle.std.proofs.lemmas.Bool.{and_parts, and_from, eqb-true, le-leb}

@@ -4,7 +4,7 @@ use Rattle.std.specs.FinMap as map
 use Rattle.std.specs.FinSet as set
 use Rattle.byteorder.specs.Endian.{little_bytes}
 use Rattle.table_model.specs.Identifier.{same_text}
-use Rattle.table_model.specs.Name.{row_name_cmp}
+use Rattle.table_model.specs.Name.{name_cmp, row_name_cmp}
 use Rattle.table_model.specs.Reading.{◌>>=◌}
 use Rattle.table_model.specs.State.{State}
 use Rattle.table_model.specs.Table.{Table, ColumnShape}
