@@ -1,8 +1,9 @@
 -- What a forget of a store says is what the command drops; if it drops none nothing changes.
-use Rattle.std.specs.Prelude.{◌≡◌, ◌⊎◌, ℕ, ◌-◌, Bool, false, not, ◌==◌, length, Ok, Err, IsOk, IsTrue}
+use Rattle.std.specs.Prelude.{◌≡◌, ◌⊎◌, ℕ, ◌-◌, Bool, false, not, ◌==◌, length, Result, Ok, Err, IsOk, IfOk, IfErr, IsTrue}
 use Rattle.std.proofs.Common.{refl, sym, ap, ◌∙◌, inr, arith}
 use Rattle.std.proofs.lemmas.Bool.Decides.{nat_tests}
 use Rattle.std.specs.FinMap as map
+use Rattle.table_model.specs.Outcome.{Acts}
 use Rattle.table_model.specs.declared.refusal.Refusal.{Refusal}
 use Rattle.table_model.specs.declared.refusal.Refusal.TheVariants.{Memory}
 use Rattle.forgotten_batches.specs.Forgotten.{forgotten}
@@ -47,3 +48,14 @@ forget_refused view changed old new e why = inr (only_memory old e why)
 
 pub forget_listed : (old : Replica) (e : Refusal) → (forgotten_batches old ≡ Err e) ⊎ ((e ≡ Memory) × IsOk (forgotten_batches old)) → IsTrue (is_refusal_of_forget e)
 forget_listed old e why = ap is_refusal_of_forget (only_memory old e why)
+
+-- what a forget of a store says and leaves is what the command makes
+pub forget_makes : {X : Type 0} (view : X → ℕ × ℕ) (old new : Replica) (result : Result X Refusal) → Acts (λ (d : X). tt) old result new (forgotten_batches old)
+    → IfOk result (λ (d : X). (view d).0 ≡ length (dead_batches old.state)) → IfOk result (λ (d : X). (view d).1 ≡ row_count (batches_of (dead_batches old.state)))
+    → Makes view (λ (d : X). not ((view d).0 == 0)) old result new (forgetting old)
+forget_makes view old new (Ok x) acts batches rows = forget_ok view x old new tt acts batches rows
+forget_makes {X = X} view old new (Err e) acts batches rows = forget_refused view (λ (d : X). not ((view d).0 == 0)) old new e acts.1
+
+pub forget_refusals : {X : Type 0} (old new : Replica) (result : Result X Refusal) → Acts (λ (d : X). tt) old result new (forgotten_batches old) → IfErr result (λ e. IsTrue (is_refusal_of_forget e))
+forget_refusals old new (Ok x) acts = tt
+forget_refusals old new (Err e) acts = forget_listed old e acts.1
