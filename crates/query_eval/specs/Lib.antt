@@ -10,6 +10,7 @@ pub mod Aggregate
 pub mod Finished
 pub mod Kept
 pub mod Cell
+pub mod Entries
 pub mod Tied
 pub mod Tally
 pub mod TallyKinds
