@@ -16,18 +16,18 @@ use Rattle.table_model.specs.declared.refusal.Refusal.TheVariants.{BadCount, Bad
 use Rattle.table_model.proofs.Passed.{true_from_T}
 use Rattle.table_model.proofs.SameTable.{one_text}
 use Rattle.catalogue_join.specs.RowRange.{RowRange}
-use Rattle.segment_core.specs.Format.{Format, IsLawful, raw, number, before, all, constant, valid_all, read_whole}
+use Rattle.segment_core.specs.Format.{Format, IsLawful, raw, number, before, constant, valid_all, read_whole}
 use Rattle.segment_core.proofs.FormatLaws.{raw_is_lawful, seen_is_lawful, checked_is_lawful, before_is_lawful, ok_is}
 use Rattle.segment_core.proofs.NumberLaws.{number_is_lawful, number_is_valid}
 use Rattle.segment_core.proofs.VectorLaws.{some_is}
-use Rattle.replica_store.specs.Exchange.{OfferForm, SummaryForm}
+use Rattle.replica_store.specs.Exchange.{OfferForm}
 use Rattle.replica_store.specs.Replica.{batch_limit}
 use Rattle.column_file.specs.Ordered.{in_order}
 use Rattle.column_file.specs.SchemaBytes.{schema, has_tiny, version_of}
-use Rattle.column_file.specs.SummaryBytes.{head, batch_name, name_count, names, summary, summary_listed, summary_bytes, summary_read}
+use Rattle.column_file.specs.SummaryBytes.{head, batch_name, name_count, names, summary, summary_listed, summary_read}
 use Rattle.column_file.specs.ContainerBytes.{Entry, entry_of, batch, batches, Deleted, deleted_of, ranges, container}
-use Rattle.column_file.specs.Files.{canonical_entry, judged, offer_held, offer_bytes, offer_read, canonical_read, HasBatchBytes}
-use Rattle.column_file.specs.FirstVersion.{batch_limit_1, schema_1, is_version_1, version_1, head_1, is_count_1, name_count_1, names_1, summary_1, batches_1, container_1, offer_read_1, summary_read_1, file_of_1, canonical_file_1, judged_1, canonical_read_1, offer_bytes_1, summary_bytes_1, HasFirstFile, HasFirstOffer, HasFirstSummary, FirstFilesComeBack, FirstOffersComeBack, FirstSummariesComeBack}
+use Rattle.column_file.specs.Files.{canonical_entry, judged, offer_held, offer_read, canonical_read, HasBatchBytes}
+use Rattle.column_file.specs.FirstVersion.{batch_limit_1, schema_1, is_version_1, version_1, head_1, is_count_1, name_count_1, names_1, summary_1, batches_1, container_1, offer_read_1, summary_read_1, file_of_1, canonical_file_1, judged_1, canonical_read_1, offer_bytes_1, summary_bytes_1, FirstFilesComeBack, FirstOffersComeBack, FirstSummariesComeBack}
 use Rattle.column_file.proofs.ContainerLaws.{batch_is_lawful, ranges_is_lawful, counted_is_lawful}
 use Rattle.column_file.proofs.FileLaws.{container_valid, file_valid, files_open, offers_are_read_again, whole_again}
 use Rattle.column_file.proofs.FirstLaws.{same_schema, head_stays, file_stays, first_files_stay, first_offers_are_read, first_summaries_are_read, judged_alike}
