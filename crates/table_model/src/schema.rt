@@ -28,7 +28,7 @@ pub enum ColType {
 }
 
 impl ColType {
-    /// How many bits a value has: 8, 16, 32 or 64.
+    /// How many bits a value has: 16, 32 or 64.
     pub fn bits(self) -> usize
         ensures { result ≡ bits_of self }
     {
