@@ -41,7 +41,7 @@ fn kept_of_tally(alloc: Global, tally: &Tally) -> Result<Kept, AllocError>
         })),
         Tally::Extreme(Extreme::Least, value) => Ok(Kept::Least(*value)),
         Tally::Extreme(Extreme::Greatest, value) => Ok(Kept::Greatest(*value)),
-        Tally::Distinct(seen) => Ok(Kept::Distinct(Values::of_set(alloc, seen)?)),
+        Tally::Distinct(seen) => Ok(Kept::Distinct(Values::of_seen(alloc, seen)?)),
     }
 }
 
