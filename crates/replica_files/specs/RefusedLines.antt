@@ -2,7 +2,8 @@
 use Rattle.std.specs.Prelude.{◌≡◌, ℕ, ◌+◌, ◌-◌, ◌^◌, min, List, [], ◌∷◌, ◌++◌, take, Option, Some, None, Result, Ok, Err}
 use Rattle.table_model.specs.declared.refusal.Refusal.{Refusal}
 use Rattle.answer_formats.specs.declared.format.Format.{Format}
-use Rattle.csv_rows.specs.Line.{line_limit, pieces}
+use Rattle.csv_rows.specs.Line.{line_limit}
+use Rattle.table_model.specs.Pieces.{pieces}
 use Rattle.csv_rows.specs.LineReading.{onto_piece}
 use Rattle.replica_store.specs.Replica.{Replica}
 use Rattle.replica_files.specs.QueryLines.{line_answer}
@@ -54,7 +55,7 @@ abbrev pub HearsRefused : Format → Replica → Option (List ℕ) → Option (L
 HearsRefused format r None before now = Unit {0}
 HearsRefused format r (Some input) before now = HearsMore before now (queries_refused format r input)
 
--- nothing else was told, but maybe not all
+-- what was told is the front of that, and nothing else
 abbrev pub HearsSome : Format → Replica → Option (List ℕ) → Option (List RefusedLine) → Option (List RefusedLine) → Type 0
 HearsSome format r None before now = Unit {0}
 HearsSome format r (Some input) before now = HearsFront before now (queries_refused format r input)
