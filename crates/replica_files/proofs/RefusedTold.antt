@@ -1,5 +1,5 @@
 -- The refused ones of lines of queries are told one after another, however the text is cut into chunks.
-use Rattle.std.specs.Prelude.{◌≡◌, ◌≢◌, ◌⊎◌, ℕ, ◌+◌, ◌-◌, ◌<◌, ◌≤◌, ◌==◌, List, [], ◌∷◌, ◌++◌, length, take, drop, position, Option, Some, None, Result, Ok, Err}
+use Rattle.std.specs.Prelude.{◌≡◌, ◌≢◌, ◌⊎◌, ℕ, ◌+◌, ◌-◌, ◌<◌, ◌≤◌, ◌==◌, List, [], ◌∷◌, ◌++◌, length, take, drop, position, Option, Some, None, Result, Ok, Err, MatchOption}
 use Rattle.std.specs.Io.KnownBytes.{Consumes, IsAtEnd}
 use Rattle.std.proofs.Common.{refl, sym, ap, ◌∙◌, arith, inl, inr, subst, append_assoc}
 use Rattle.std.proofs.lemmas.Bool.{cases_lt}
@@ -137,13 +137,20 @@ refused_so (Err Memory) e before now w w' made h why = let same : Memory ≡ e =
 refused_so (Err WriteFault) e before now w w' made h why = let same : WriteFault ≡ e = cc in absurd (why.2 (sym same))
 refused_so (Err other) e before now w w' made h why = let same : other ≡ e = cc in h.0 ∙ ap Err same
 
+-- why a line was passed over
+pub why_refused : (passed : Option Refusal) (e : Refusal) (outcome : Result (Unit {0}) Refusal) → MatchOption passed (outcome ≡ Ok tt) (λ (x : Refusal). (outcome ≡ Err x) × (x ≢ Memory) × (x ≢ WriteFault)) → passed ≡ Some e
+    → (outcome ≡ Err e) × (e ≢ Memory) × (e ≢ WriteFault)
+why_refused None e outcome h is = absurd cc
+why_refused (Some x) e outcome h is = let same : x ≡ e = cc in subst (λ (y : Refusal). (outcome ≡ Err y) × (y ≢ Memory) × (y ≢ WriteFault)) same h
+
 -- a line that is refused
-pub one_refused : (result : Result (Unit {0}) Refusal) (e : Refusal) (before now : Option (List ℕ)) (w w' n m : ℕ) (line slice : List ℕ) (made : Result (List ℕ) Refusal) (heard told : Heard) → WritesText result before now w w' made
-    → (result ≡ Err e) × (e ≢ Memory) × (e ≢ WriteFault) → m ≡ n → slice ≡ line → length slice ≤ limit → HearsMore heard told (refused_line m slice e ∷ []) → HearsMore heard told (refused_of n line made)
-one_refused result e before now w w' n m line slice made heard told h why number same short hears =
+pub one_refused : (result : Result (Unit {0}) Refusal) (e : Refusal) (before now : Option (List ℕ)) (w w' n m : ℕ) (line slice : List ℕ) (answer : List ℕ → Result (List ℕ) Refusal) (heard told : Heard) → WritesText result before now w w' (answer slice)
+    → (result ≡ Err e) × (e ≢ Memory) × (e ≢ WriteFault) → m ≡ n → slice ≡ line → length slice ≤ limit → HearsMore heard told (refused_line m slice e ∷ []) → HearsMore heard told (refused_of n line (answer line))
+one_refused result e before now w w' n m line slice answer heard told h why number same short hears =
     let short_line : take limit line ≡ slice = ap (take limit) (sym same) ∙ take_all limit slice short in
     let P : List RefusedLine → Type 0 = λ lines. HearsMore heard told lines in
-    let is : refused_of n line made ≡ refused_line m slice e ∷ [] = ap (refused_of n line) (refused_so result e before now w w' made h why) ∙ (λ i. refused_line (sym number i) (short_line i) e ∷ []) in
+    let made : answer line ≡ Err e = ap answer (sym same) ∙ refused_so result e before now w w' (answer slice) h why in
+    let is : refused_of n line (answer line) ≡ refused_line m slice e ∷ [] = ap (refused_of n line) made ∙ (λ i. refused_line (sym number i) (short_line i) e ∷ []) in
     subst P (sym is) hears
 
 -- ---- chunks
