@@ -1,10 +1,10 @@
 -- Imports: batches of rows that wait for their names, and what they make of a replica under consecutive names.
-use Rattle.std.specs.Prelude.{◌≡◌, ℕ, ◌+◌, ◌-◌, ◌/◌, ◌%◌, ◌≤◌, ◌<◌, suc, Bool, true, false, cond, not, ◌&&◌, ◌==◌, nat_le, nat_lt, List, [], ◌∷◌, ◌++◌, length, map as each, Option, Some, None, Result, Ok, Err, IsTrue, refl}
+use Rattle.std.specs.Prelude.{◌≡◌, ℕ, ◌+◌, ◌-◌, ◌/◌, ◌%◌, ◌≤◌, Bool, false, cond, not, ◌&&◌, ◌==◌, nat_le, nat_lt, List, [], ◌∷◌, ◌++◌, length, map as each, Option, Some, None, Result, Ok, Err, IsTrue, refl}
 use Rattle.std.specs.Coded.{Coded, code_by, coded×, coded_list}
 use Rattle.std.specs.FinMap as map
 use Rattle.std.specs.FinSet as set
-use Rattle.std.specs.List.{All, list_all, flat_map}
-use Rattle.table_model.specs.Name.{name_cmp, row_name_cmp, is_proper_name}
+use Rattle.std.specs.List.{All, list_all}
+use Rattle.table_model.specs.Name.{is_proper_name}
 use Rattle.table_model.specs.Reading.{◌>>=◌}
 use Rattle.table_model.specs.State.{State, Batch, coded_batch}
 use Rattle.table_model.specs.Table.{Table, IsBatch, coded_table, rows_fault}

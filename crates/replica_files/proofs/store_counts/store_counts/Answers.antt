@@ -1,5 +1,5 @@
 -- The counts are those of the batches, and of the ranges of deleted rows.
-use Rattle.std.proofs.Common.{◌≡◌, ◌∙◌, length, sym, ap}
+use Rattle.std.proofs.Common.{◌∙◌, length, sym, ap}
 use Rattle.column_file.proofs.RangeLists.{ranges_are}
 use Rattle.replica_files.proofs.CountedBatches.{rows-named_rows}
 use Rattle.replica_files.proofs.store_counts.store_counts.Goals as goal
