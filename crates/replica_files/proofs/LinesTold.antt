@@ -1,5 +1,5 @@
 -- Lines of queries are told one after another, however the text is cut into chunks; a line past the limit is too long however long it is.
-use Rattle.std.specs.Prelude.{◌≡◌, ◌≢◌, ◌⊎◌, ℕ, ◌+◌, ◌-◌, ◌<◌, ◌≤◌, Bool, true, false, ◌&&◌, ◌==◌, cond, nat_lt, List, [], ◌∷◌, ◌++◌, length, take, drop, position, Option, Some, None, Result, Ok, Err, OnOk, OnErr, IfErr}
+use Rattle.std.specs.Prelude.{◌≡◌, ◌≢◌, ◌⊎◌, ℕ, ◌+◌, ◌-◌, ◌<◌, ◌≤◌, Bool, true, false, ◌&&◌, ◌==◌, cond, nat_lt, List, [], ◌++◌, length, take, drop, position, Option, Some, None, Result, Ok, Err}
 use Rattle.std.specs.Io.KnownBytes.{Appends, Consumes, IsAtEnd}
 use Rattle.std.specs.Str.{IsUtf8, is_utf8}
 use Rattle.std.specs.Str.Lossy.{utf8_valid_len}
@@ -10,7 +10,6 @@ use Rattle.std.proofs.lemmas.Bool.{cases_lt}
 use Rattle.std.proofs.lemmas.List.{take_all, length-append, append-nil}
 use Rattle.std.proofs.Math.ListN.{length-take}
 use Rattle.table_model.proofs.Written.{appends_both}
-use Rattle.table_model.specs.Counted.{one_more}
 use Rattle.table_model.specs.Faults.{AppendsFront, CountsWrites, IsWithin, GaveMore, Failed}
 use Rattle.table_model.specs.declared.counted.TheConstants.{READ_LIMIT}
 use Rattle.table_model.specs.declared.refusal.Refusal.{Refusal}

@@ -1,5 +1,5 @@
 -- What is left of the store is written where a batch was dropped.
-use Rattle.std.proofs.Common.{◌≡◌, refl, not, ◌==◌, ℕ, Bool}
+use Rattle.std.proofs.Common.{refl, not, ◌==◌, ℕ, Bool}
 use Rattle.std.proofs.lemmas.Result.{err_from_is_err_and}
 use Rattle.replica_files.specs.Forgetting.{forgetting}
 use Rattle.replica_store.specs.declared.forgotten.Forgotten.{Forgotten}

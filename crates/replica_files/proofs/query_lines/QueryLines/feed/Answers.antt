@@ -1,5 +1,5 @@
 -- One line after another is told, and the rest is kept.
-use Rattle.std.proofs.Common.{◌∙◌, refl, ap}
+use Rattle.std.proofs.Common.{◌∙◌, refl}
 use Rattle.std.proofs.lemmas.Result.{err_from_is_err_and}
 use Rattle.replica_files.proofs.LinesTold.{fed_start, fed_line, fed_whole, fed_stops, fed_lacks}
 use Rattle.replica_files.proofs.RefusedTold.{chunk_start, chunk_line, chunk_whole, chunk_stops}
