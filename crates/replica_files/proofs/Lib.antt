@@ -1,5 +1,6 @@
 pub mod AskedTexts
 pub mod BatchCounting
+pub mod CommandsBring
 pub mod CommandSteps
 pub mod CountedBatches
 pub mod CsvLoading

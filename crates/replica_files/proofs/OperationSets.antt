@@ -101,12 +101,12 @@ merge-adds table ops more r other new done schema ours theirs here there e =
       agree = both_agree ops more here there agree;
     }
 
-among-left : (op : Operation) (ops more : List Operation) → Among op ops → Among op (ops ++ more)
+pub among-left : (op : Operation) (ops more : List Operation) → Among op ops → Among op (ops ++ more)
 among-left op [] more h = absurd h
 among-left op (x ∷ ops) more (inl e) = inl e
 among-left op (x ∷ ops) more (inr h) = inr (among-left op ops more h)
 
-among-right : (op : Operation) (ops more : List Operation) → Among op more → Among op (ops ++ more)
+pub among-right : (op : Operation) (ops more : List Operation) → Among op more → Among op (ops ++ more)
 among-right op [] more h = h
 among-right op (x ∷ ops) more h = inr (among-right op ops more h)
 

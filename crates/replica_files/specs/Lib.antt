@@ -2,6 +2,7 @@ pub mod Asking
 pub mod ColumnFigures
 pub mod ColumnTexts
 pub mod Commands
+pub mod Brings
 pub mod Counts
 pub mod CsvLoads
 pub mod DumpColumnLaws
