@@ -1,9 +1,8 @@
 -- A load under a given name of which no batch is new brings nothing: the folder holds all of it.
-use Rattle.std.specs.Prelude.{◌≡◌, ℕ, ◌-◌, false, not, ◌==◌, List, [], ◌++◌, length, Some, Result, Ok}
+use Rattle.std.specs.Prelude.{◌≡◌, ℕ, not, ◌==◌, List, [], ◌++◌, length, Some, Ok}
 use Rattle.std.proofs.Common.{refl, sym, ap, subst, ◌∙◌}
-use Rattle.std.specs.FinMap as map
 use Rattle.std.specs.FinSet as set
-use Rattle.table_model.specs.Operation.{Operation, AreAgreeing, SameOperations, state_of}
+use Rattle.table_model.specs.Operation.{Operation, AreAgreeing, state_of}
 use Rattle.table_model.specs.Reading.{◌>>=◌}
 use Rattle.table_model.specs.State.{State, empty_state}
 use Rattle.table_model.specs.declared.names.BatchName.{BatchName}
@@ -16,7 +15,7 @@ use Rattle.replica_files.proofs.FileLaws.{ok_one, bound_parts}
 use Rattle.replica_files.proofs.OperationSets.{Adds, merge-adds, state_of-inserts}
 use Rattle.replica_files.proofs.StoreCommands.{merge_kept}
 use Rattle.folder_parts.specs.FolderLaws.{NamedLoadIdle}
-use Rattle.folder_parts.specs.PartsPut.{empty_replica, beside, with_new, part_of_named_load}
+use Rattle.folder_parts.specs.PartsPut.{empty_replica, beside, with_new}
 use Rattle.folder_parts.proofs.PartsBring.{append_nothing, empty_is, none_agree, import-adds, same_by_state, name_kept}
 
 -- what a load by itself holds: the inserts of its batches
