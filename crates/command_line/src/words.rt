@@ -3,13 +3,7 @@
 use crate::requests::Source;
 use answer_formats::{Format, ReportForm};
 use std::alloc::{AllocError, Global};
-use table_model::{BatchName, ColType, Number, Origin, magnitude};
-
-/// How many digits an origin or a batch's number has at most.
-const NUMBER_DIGITS: usize = 10;
-
-/// How many digits an ordinal has at most.
-const ORDINAL_DIGITS: usize = 5;
+use table_model::{BatchName, ColType, NUMBER_DIGITS, Number, ORDINAL_DIGITS, Origin, magnitude};
 
 /// The number that 1 digit and at most `most` write.
 fn number(text: &str, most: usize) -> Option<u64> {

@@ -18,9 +18,10 @@ use Rattle.table_model.specs.declared.refusal.Refusal.TheVariants.{BadSchema}
 use Rattle.table_model.specs.declared.schema.ColType.{ColType}
 use Rattle.table_model.specs.declared.schema.ColType.TheVariants.{TinyInt, SmallInt, Integer, BigInt}
 use Rattle.table_model.proofs.SameTable.{itself_text}
-use Rattle.csv_rows.specs.Line.{line_limit, pieces, onto_first, without, before_last, text_or, lines_between, lines_of, unmarked}
-use Rattle.table_model.specs.Numeral.{is_numeral, magnitude_of, value_digits}
-use Rattle.csv_rows.specs.Field.{fields_of, unquoted, is_null_word, integer_of, signed_of, value_of, cell_of, fitting, cell_in}
+use Rattle.csv_rows.specs.Line.{line_limit, before_last, text_or, lines_between, lines_of, unmarked}
+use Rattle.table_model.specs.Pieces.{pieces, onto_first, without}
+use Rattle.table_model.specs.Numeral.{is_numeral, magnitude_of, value_digits, integer_of, signed_of}
+use Rattle.csv_rows.specs.Field.{fields_of, unquoted, is_null_word, value_of, cell_of, fitting, cell_in}
 use Rattle.csv_rows.specs.DialectForm.{usual}
 use Rattle.csv_rows.specs.CsvText.{◌>>=◌, in_line, place_named, new_place, order_from, has_each, header_order, cell_at, or_at, each_of, own_order, named_order, filled, null_row, row_of, is_passed, line_rows, before_rows, rows_from, header_rows}
 use Rattle.csv_rows.specs.Written.{cell_text, column_name, row_line, csv_text, WrittenRowsAreRead}

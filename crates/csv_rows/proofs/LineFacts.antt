@@ -3,7 +3,8 @@ use Rattle.std.specs.Prelude.{◌≡◌, ℕ, suc, ◌+◌, ◌-◌, ◌<◌, �
 use Rattle.std.proofs.Common.{refl, sym, ap, ◌∙◌, arith, subst}
 use Rattle.std.proofs.lemmas.Bool.{eqb-true}
 use Rattle.std.proofs.lemmas.List.{length-append, append-nil, length_push, length-take-le}
-use Rattle.csv_rows.specs.Line.{line_limit, pieces, before_last, text_or, without_return, lines_between, lines_of}
+use Rattle.csv_rows.specs.Line.{line_limit, before_last, text_or, without_return, lines_between, lines_of}
+use Rattle.table_model.specs.Pieces.{pieces}
 use Rattle.csv_rows.specs.LineReading.{onto_piece, lines_after, FirstTooLong, Takes}
 use Rattle.csv_rows.specs.declared.lines.Taken.TheVariants as taken
 use Rattle.csv_rows.proofs.Pieces.{first_piece, onto_nothing, onto_both, at_none, at_some, front_is}

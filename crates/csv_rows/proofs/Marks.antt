@@ -1,7 +1,8 @@
 -- A byte order mark is at the head of a text or isn't, as soon as three bytes of it are known.
 use Rattle.std.specs.Prelude.{◌≡◌, ℕ, ◌≤◌, true, false, cond, ◌==◌, List, [], ◌∷◌, ◌++◌, length, drop, Option, Some, None, option_and_then}
 use Rattle.std.proofs.Common.{refl, arith}
-use Rattle.csv_rows.specs.Line.{without, text_or, after_mark, unmarked}
+use Rattle.csv_rows.specs.Line.{text_or, after_mark, unmarked}
+use Rattle.table_model.specs.Pieces.{without}
 
 -- the rest of the mark, after its first byte was sought, and after its second was
 abbrev second : Option (List ℕ) → Option (List ℕ)

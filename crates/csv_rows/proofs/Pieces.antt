@@ -5,7 +5,8 @@ use Rattle.std.proofs.Common.{refl, sym, ap, ◌∙◌, arith, add-one, append_a
 use Rattle.std.proofs.lemmas.Bool.Decides.{nat_tests}
 use Rattle.std.proofs.lemmas.Bool.{eqb-true}
 use Rattle.std.proofs.lemmas.List.{append-nil, take_at}
-use Rattle.csv_rows.specs.Line.{pieces, onto_first, before_last, text_or}
+use Rattle.csv_rows.specs.Line.{before_last, text_or}
+use Rattle.table_model.specs.Pieces.{pieces, onto_first}
 use Rattle.csv_rows.specs.LineReading.{onto_piece}
 
 -- whether a byte is the separator

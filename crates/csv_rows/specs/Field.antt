@@ -1,10 +1,11 @@
 -- The fields of a line, and the null, the whole number or the name that a field is.
-use Rattle.std.specs.Prelude.{ℕ, suc, Bool, cond, ◌||◌, List, [], ◌∷◌, length, codes, Option, Some, None, option_map, option_and_then, ℤ, pos, neg_ℤ}
+use Rattle.std.specs.Prelude.{ℕ, suc, Bool, cond, ◌||◌, List, [], ◌∷◌, length, codes, Option, Some, None, option_map, option_and_then, ℤ}
 use Rattle.table_model.specs.Identifier.{same_text}
-use Rattle.table_model.specs.Numeral.{magnitude_of}
+use Rattle.table_model.specs.Numeral.{integer_of}
+use Rattle.table_model.specs.Pieces.{pieces, without}
 use Rattle.table_model.specs.Table.{ColumnShape, fits}
 use Rattle.csv_rows.specs.DialectForm.{DialectForm, is_own_word}
-use Rattle.csv_rows.specs.Line.{pieces, without, before_last, text_or}
+use Rattle.csv_rows.specs.Line.{before_last, text_or}
 
 -- the fields of a line, between its separators
 abbrev pub fields_of : ℕ → List ℕ → List (List ℕ)
@@ -27,15 +28,6 @@ quoted text = option_and_then (before_last 34) (without 34 text)
 -- a text without the double quotes that it is in, if it is in them
 abbrev pub unquoted : List ℕ → List ℕ
 unquoted text = text_or (quoted text) text
-
--- a number whose sign, if it has one, was taken off
-abbrev pub signed_of : List ℕ → Option (List ℕ) → Option ℤ
-signed_of text (Some digits) = option_map (λ n. neg_ℤ (pos n)) (magnitude_of digits)
-signed_of text None = option_map pos (magnitude_of text)
-
--- a whole number: an optional minus sign and 1 to value_digits digits
-abbrev pub integer_of : List ℕ → Option ℤ
-integer_of text = signed_of text (without 45 text)
 
 -- a null as it is written, but for the empty one: NULL, a backslash and N, or the dialect's own word
 unfoldable pub is_null_word : DialectForm → List ℕ → Bool

@@ -1,24 +1,10 @@
 -- The lines of a text of comma-separated values: what its line feeds end, and what follows the last of them.
 use Rattle.std.specs.Prelude.{ℕ, ◌==◌, cond, List, [], ◌∷◌, length, Option, Some, None, option_map, option_and_then}
+use Rattle.table_model.specs.Pieces.{pieces, without}
 
 -- how many bytes a line may have, without its end
 abbrev pub line_limit : ℕ
 line_limit = 1048576
-
--- the texts with a byte before the first of them
-abbrev pub onto_first : ℕ → List (List ℕ) → List (List ℕ)
-onto_first c [] = (c ∷ []) ∷ []
-onto_first c (text ∷ texts) = (c ∷ text) ∷ texts
-
--- the pieces of a text between such bytes: one more than there are such bytes
-abbrev pub pieces : ℕ → List ℕ → List (List ℕ)
-pieces separator [] = [] ∷ []
-pieces separator (c ∷ cs) = cond (c == separator) ([] ∷ pieces separator cs) (onto_first c (pieces separator cs))
-
--- what follows such a byte at the head of a text
-abbrev pub without : ℕ → List ℕ → Option (List ℕ)
-without byte [] = None
-without byte (c ∷ cs) = cond (c == byte) (Some cs) None
 
 -- what comes before such a byte that a text ends with
 abbrev pub before_last : ℕ → List ℕ → Option (List ℕ)

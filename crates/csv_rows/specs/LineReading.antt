@@ -1,7 +1,8 @@
 -- The lines of a text as they are read, piece by piece.
 use Rattle.std.specs.Prelude.{◌≡◌, ℕ, suc, ◌+◌, ◌<◌, ◌≤◌, List, [], ◌∷◌, ◌++◌, drop, length, Option}
 use Rattle.std.specs.Io.KnownBytes.{IsAtEnd, Consumes}
-use Rattle.csv_rows.specs.Line.{line_limit, pieces, lines_between, lines_of}
+use Rattle.csv_rows.specs.Line.{line_limit, lines_between, lines_of}
+use Rattle.table_model.specs.Pieces.{pieces}
 use Rattle.csv_rows.specs.LinesForm.{LinesForm}
 use Rattle.csv_rows.specs.Reading.{AsKnown}
 use Rattle.csv_rows.specs.declared.lines.Found.{Found}

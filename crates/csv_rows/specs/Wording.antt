@@ -4,7 +4,7 @@ use Rattle.std.specs.List.{list_any}
 use Rattle.table_model.specs.Identifier.{same_text}
 use Rattle.table_model.specs.Table.{ColumnShape, has_name}
 use Rattle.csv_rows.specs.CsvText.{◌>>=◌}
-use Rattle.csv_rows.specs.Line.{pieces}
+use Rattle.table_model.specs.Pieces.{pieces}
 use Rattle.csv_rows.specs.declared.order.WordError.{WordError}
 use Rattle.csv_rows.specs.declared.order.WordError.TheVariants.{NoNewColumn, Memory}
 

@@ -1,6 +1,7 @@
 //! Texts cut at a byte.
 ghost use Rattle.std.specs.Prelude.{◌≡◌, cond, ◌∷◌, ◌≤◌, ◌+◌, ◌==◌, length, position, option_map, Some};
-ghost use Rattle.csv_rows.specs.Line.{without, before_last, after_mark};
+ghost use Rattle.csv_rows.specs.Line.{before_last, after_mark};
+ghost use Rattle.table_model.specs.Pieces.{without};
 ghost use Rattle.csv_rows.specs.Field.{quoted, unquoted, fields_of, fields_left, left_len};
 
 /// What follows such a byte at the start of the text, if it starts with one.

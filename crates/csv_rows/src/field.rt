@@ -1,6 +1,7 @@
 //! What a field is: a null, or a whole number of its column's type.
 ghost use Rattle.std.specs.Prelude.{◌≡◌};
-ghost use Rattle.csv_rows.specs.Field.{is_null_word, integer_of, value_of, cell_of, cell_in};
+ghost use Rattle.csv_rows.specs.Field.{is_null_word, value_of, cell_of, cell_in};
+ghost use Rattle.table_model.specs.Numeral.{integer_of};
 
 use crate::bytes::{unquoted, without};
 use crate::dialect::Dialect;

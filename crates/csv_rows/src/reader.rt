@@ -19,10 +19,7 @@ use crate::row::push_row;
 use std::alloc::{AllocError, Global};
 use std::io::Read;
 use std::marker::Model;
-use table_model::{Column, Counted, READ_LIMIT, Refusal, Rows, Schema};
-
-/// How many rows a batch has at most.
-const BATCH_ROWS: usize = 65_536;
+use table_model::{Column, Counted, MAX_ROWS, READ_LIMIT, Refusal, Rows, Schema};
 
 /// How many lines are read at most: each but the last has a byte at least.
 const TURNS: u64 = READ_LIMIT + 1;
@@ -298,7 +295,7 @@ fn read_rows<R: Read>(
         )? {
             return Ok(rows);
         }
-        if rows.len() >= BATCH_ROWS {
+        if rows.len() >= MAX_ROWS {
             return Ok(rows);
         }
     }

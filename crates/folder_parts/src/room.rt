@@ -3,10 +3,8 @@ ghost use Rattle.std.specs.Prelude.{◌≡◌, ◌≤◌, ◌*◌, length};
 ghost use Rattle.std.specs.List.{sum};
 ghost use Rattle.folder_parts.specs.Heads.{room_for};
 
+use replica_store::MAX_BATCHES;
 use table_model::Refusal;
-
-/// How many batches a folder may have.
-const MAX_BATCHES: u128 = 1_048_576;
 
 /// The sum of numbers.
 fn sum_of(numbers: &[u32]) -> u128
@@ -25,7 +23,7 @@ fn sum_of(numbers: &[u32]) -> u128
 pub fn check_room(batches: &[u32], new: u32) -> Result<(), Refusal>
     ensures { result ≡ room_for batches.now new }
 {
-    if new == 0 || u128::from(new) + sum_of(batches) <= MAX_BATCHES {
+    if new == 0 || u128::from(new) + sum_of(batches) <= MAX_BATCHES as u128 {
         Ok(())
     } else {
         Err(Refusal::Full)

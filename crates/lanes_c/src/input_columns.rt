@@ -10,13 +10,7 @@ use live_columns::stride_of;
 use replica_files::Load;
 use std::alloc::{AllocError, Global};
 use std::marker::Model;
-use table_model::{Refusal, Rows, Schema};
-
-/// How many rows a batch has at most.
-const BATCH_ROWS: usize = 65_536;
-
-/// How many rows a load has at most: those of 1,048,576 batches.
-const MAX_ROWS: usize = 68_719_476_736;
+use table_model::{MAX_ROWS, MAX_STATE_ROWS, Refusal, Rows, Schema};
 
 /// Columns that a caller gives: as many numbers as cells, one column after another, and a bit for each cell, or none if each is a
 /// value.
@@ -53,7 +47,7 @@ impl<'a> InputColumns<'a> {
         ensures whole { IfOk result (λ input. (input ≡ record { rows = rows; columns = columns; values = values.now; valid = valid.now }) × (count_fault input ≡ None)) }
         ensures fault { IfErr result (λ e. count_fault (record { rows = rows; columns = columns; values = values.now; valid = valid.now }) ≡ Some e) }
     {
-        if rows > MAX_ROWS {
+        if rows > MAX_STATE_ROWS {
             return Err(Refusal::Full);
         }
         let has_bits = valid.is_empty() || valid.len() == columns * stride_of(rows);
@@ -125,8 +119,8 @@ impl<'a> InputColumns<'a> {
         ensures refused { IfErr result (λ e. IsNotAdded self.now index load.old e) }
     {
         let all = self.rows;
-        let first = index * BATCH_ROWS;
-        let count = BATCH_ROWS.min(all - first);
+        let first = index * MAX_ROWS;
+        let count = MAX_ROWS.min(all - first);
         let rows = self.rows(alloc, first, count)?;
         match load.add_batch(alloc, &rows) {
             Ok(()) => Ok(()),
@@ -143,7 +137,7 @@ impl<'a> InputColumns<'a> {
         ensures refused { IfErr result (λ e. (first_fault schema.now.columns 0 (all_rows self.now) ≡ Some e) ⊎ (e ≡ Memory)) }
     {
         let mut load = Load::new(alloc, schema)?;
-        for index in 0..self.rows.div_ceil(BATCH_ROWS) {
+        for index in 0..self.rows.div_ceil(MAX_ROWS) {
             self.add_batch(alloc, &mut load, index)?;
         }
         Ok(load)

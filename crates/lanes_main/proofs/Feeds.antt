@@ -10,7 +10,8 @@ use Rattle.std.proofs.Math.ListN.{length-take}
 use Rattle.table_model.specs.declared.refusal.Refusal.TheVariants.{LineTooLong}
 use Rattle.cluster_history.specs.Cluster.{ClusterParts}
 use Rattle.lanes_main.specs.ReplyText.{reply_text_of}
-use Rattle.script_lines.specs.Word.{cut, longer, pieces, onto_first}
+use Rattle.script_lines.specs.Word.{cut, longer}
+use Rattle.table_model.specs.Pieces.{pieces, onto_first}
 use Rattle.script_lines.specs.Line.{command_of}
 use Rattle.csv_rows.specs.Line.{line_limit}
 use Rattle.replica_files.specs.QueryLines.{grown}

@@ -11,7 +11,7 @@ use Rattle.cluster_history.specs.Cluster.{ClusterParts}
 use Rattle.lanes_main.specs.ReplyText.{reply_text_of}
 use Rattle.csv_rows.specs.Line.{line_limit}
 use Rattle.lanes_main.specs.Script.{lines_text, after_lines, whole_lines, script_text, text_from}
-use Rattle.script_lines.specs.Word.{pieces}
+use Rattle.table_model.specs.Pieces.{pieces}
 use Rattle.cluster_history.specs.declared.reply.Reply.TheVariants.{Refused}
 use Rattle.table_model.specs.declared.refusal.Refusal.{Refusal}
 use Rattle.table_model.specs.declared.refusal.Refusal.TheVariants.{Memory, ReadFault, WriteFault, LineTooLong}

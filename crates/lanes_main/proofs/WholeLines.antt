@@ -2,7 +2,7 @@
 use Rattle.std.specs.Prelude.{◌≡◌, ℕ, true, false, cond, ◌==◌, List, [], ◌∷◌, ◌++◌, None}
 use Rattle.std.proofs.Common.{refl, sym, ap, ◌∙◌}
 use Rattle.lanes_main.specs.Script.{lines_text, after_lines, all_but_last, whole_lines, onto_line, script_text, text_from}
-use Rattle.script_lines.specs.Word.{pieces, onto_first}
+use Rattle.table_model.specs.Pieces.{pieces, onto_first}
 use Rattle.lanes_main.proofs.Feeds.{first_line, onto_nothing}
 use Rattle.lanes_main.proofs.ScriptRuns.{lines_text-append}
 

@@ -10,7 +10,7 @@ use Rattle.lanes_main.specs.ReplyText.{reply_text_of}
 use Rattle.cluster_history.specs.Run.{answered}
 use Rattle.script_lines.specs.TableWords.{TableWords}
 use Rattle.csv_rows.specs.Line.{line_limit}
-use Rattle.script_lines.specs.Word.{pieces}
+use Rattle.table_model.specs.Pieces.{pieces}
 use Rattle.script_lines.specs.declared.command.Command.{Command}
 use Rattle.script_lines.specs.declared.command.Command.TheVariants as commands
 use Rattle.cluster_history.specs.declared.reply.Reply.{Reply}

@@ -26,10 +26,7 @@ use query_eval::{Aggregate, FinishedGroup, Key, Plan, answer_of_groups, values_f
 use query_parser::{parse, resolve};
 use std::alloc::Global;
 use std::collections::BTreeMap;
-use table_model::{Answer, Field, Fold, Query, Refusal, Schema};
-
-/// How many different values a set function under DISTINCT goes over at most.
-const MOST: usize = 1 << 36;
+use table_model::{Answer, Field, Fold, MAX_STATE_ROWS, Query, Refusal, Schema};
 
 /// A whole number, or null.
 fn whole_field(value: Option<i64>) -> Field
@@ -73,7 +70,7 @@ fn distinct_field(fold: Fold, kept: &Kept) -> Result<Field, PartialAnswerFault>
     ensures refused { IfErr result (λ e. (e ≡ PartialAnswerFault.TooMany) × (CanFinish kept.now → ⊥)) }
 {
     let values = kept.values();
-    if values.len() > MOST {
+    if values.len() > MAX_STATE_ROWS {
         return Err(PartialAnswerFault::TooMany);
     }
     Ok(values_field(fold, values))
@@ -214,7 +211,7 @@ fn finished(
 /// The refusals are `QueryDiffers` if there is no group without GROUP BY, and then, group by group in the order of the keys,
 /// `QueryDiffers` if a group is not of the shape that the query asks for, and `TooMany` if what it keeps can't be finished. `Memory`
 /// can come in place of each but the first.
-pub fn finish_groups(
+pub(crate) fn finish_groups(
     alloc: Global,
     schema: &Schema,
     query: &Query,

@@ -33,7 +33,7 @@ pub fn put_group(
 }
 
 /// Takes one group more into the groups of a partial answer.
-pub fn take_group(
+fn take_group(
     alloc: Global,
     groups: &mut BTreeMap<Key, Vec<Kept>>,
     key: Key,
@@ -54,7 +54,7 @@ pub fn take_group(
 }
 
 /// The groups of both partial answers, those with the same keys as one.
-pub fn groups_of_both(
+fn groups_of_both(
     alloc: Global,
     one: BTreeMap<Key, Vec<Kept>>,
     other: BTreeMap<Key, Vec<Kept>>,
@@ -76,7 +76,7 @@ pub fn groups_of_both(
 }
 
 /// Two partial answers combined.
-pub fn combined_groups(
+pub(crate) fn combined_groups(
     alloc: Global,
     one: BTreeMap<Key, Vec<Kept>>,
     other: BTreeMap<Key, Vec<Kept>>,

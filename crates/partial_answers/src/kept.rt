@@ -149,7 +149,7 @@ fn greater(a: Option<i64>, b: Option<i64>) -> Option<i64>
 }
 
 /// What a set function keeps of two lists of values, from what it keeps of each.
-pub fn kept_of_both(alloc: Global, one: &Kept, other: &Kept) -> Result<Kept, PartialAnswerFault>
+fn kept_of_both(alloc: Global, one: &Kept, other: &Kept) -> Result<Kept, PartialAnswerFault>
     ensures both { IfOk result (λ both. tally_in both ≡ plus (tally_in one.now) (tally_in other.now)) }
     ensures kind { IfOk result (λ both. kept_kind both ≡ kept_kind one.now) }
     ensures refused { IfErr result (λ e. RefusesKept e one.now other.now) }
@@ -185,7 +185,7 @@ fn push_kept(all: &mut Vec<Kept>, kept: Kept) -> Result<(), AllocError>
 }
 
 /// What a group's set functions keep of two lists of rows, from what they keep of each.
-pub fn group_of_both(
+pub(crate) fn group_of_both(
     alloc: Global,
     one: &[Kept],
     other: &[Kept],

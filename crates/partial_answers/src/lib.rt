@@ -18,9 +18,7 @@ mod values;
 
 pub use columns_partial_answer::partial_answer_groups;
 pub use fault::PartialAnswerFault;
-pub use finishing::finish_groups;
-pub use groups::{combined_groups, groups_of_both, take_group};
-pub use kept::{Kept, Sums, group_of_both, kept_of_both};
+pub use kept::{Kept, Sums};
 pub use laws::{counted_laws, evaluated_laws, partial_answer_laws};
 pub use means::mean_laws;
 pub use partial_answer::PartialAnswer;

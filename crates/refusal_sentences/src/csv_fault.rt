@@ -3,7 +3,7 @@
 use crate::quoted::Quoted;
 use crate::tables::Names;
 use std::fmt;
-use table_model::{ColType, Schema, same_word};
+use table_model::{ColType, Schema, VALUE_DIGITS, is_numeral, same_word};
 
 /// The usual separators, and what each is called.
 const SEPARATORS: [(u8, &str); 4] = [
@@ -322,11 +322,11 @@ fn digits_of(field: &[u8]) -> &[u8] {
 /// Whether a field without its quotes is a whole number as the grammar has it: an optional `-` and 1 to 30 digits.
 fn is_whole_number(field: &[u8]) -> bool {
     let digits = digits_of(field);
-    1 <= digits.len() && digits.len() <= 30 && digits.iter().all(u8::is_ascii_digit)
+    is_numeral(digits, VALUE_DIGITS)
 }
 
 /// Whether a field, of which at most the first 40 bytes are here, is a number of more digits than the grammar has.
 fn is_long_number(field: &[u8]) -> bool {
     let digits = digits_of(field);
-    digits.len() > 30 && digits.iter().all(u8::is_ascii_digit)
+    digits.len() > VALUE_DIGITS && digits.iter().all(u8::is_ascii_digit)
 }

@@ -16,7 +16,8 @@ use Rattle.table_model.specs.declared.counted.TheConstants.{READ_LIMIT}
 use Rattle.table_model.specs.declared.refusal.Refusal.{Refusal}
 use Rattle.table_model.specs.declared.refusal.Refusal.TheVariants.{Memory, ReadFault, Syntax, WriteFault, LineTooLong}
 use Rattle.answer_formats.specs.declared.format.Format.{Format}
-use Rattle.csv_rows.specs.Line.{line_limit, pieces}
+use Rattle.csv_rows.specs.Line.{line_limit}
+use Rattle.table_model.specs.Pieces.{pieces}
 use Rattle.csv_rows.specs.LineReading.{onto_piece}
 use Rattle.csv_rows.proofs.Pieces.{first_piece, onto_nothing, onto_both, at_none, at_some}
 use Rattle.replica_store.specs.Replica.{Replica}

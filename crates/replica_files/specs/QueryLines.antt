@@ -8,7 +8,8 @@ use Rattle.table_model.specs.Faults.{AppendsFront}
 use Rattle.table_model.specs.declared.refusal.Refusal.{Refusal}
 use Rattle.table_model.specs.declared.refusal.Refusal.TheVariants.{Syntax, LineTooLong}
 use Rattle.answer_formats.specs.declared.format.Format.{Format}
-use Rattle.csv_rows.specs.Line.{line_limit, pieces}
+use Rattle.csv_rows.specs.Line.{line_limit}
+use Rattle.table_model.specs.Pieces.{pieces}
 use Rattle.csv_rows.specs.LineReading.{onto_piece}
 use Rattle.replica_store.specs.Replica.{Replica}
 use Rattle.replica_files.specs.Asking.{answered_in}

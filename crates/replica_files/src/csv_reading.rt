@@ -8,10 +8,7 @@ use crate::load::Load;
 use csv_rows::{CsvError, CsvReader};
 use std::alloc::Global;
 use std::io::Read;
-use table_model::{Counted, READ_LIMIT, Refusal, Rows};
-
-/// How many rows a batch has at most.
-const BATCH_ROWS: usize = 65_536;
+use table_model::{Counted, MAX_ROWS, READ_LIMIT, Refusal, Rows};
 
 /// How many batches are read at most: each but the last has rows, and each row takes a byte at least.
 const ROUNDS: u64 = READ_LIMIT + 2;
@@ -53,7 +50,7 @@ pub fn read_csv<R: Read>(
     for _round in 0..ROUNDS {
         let rows = csv.next_batch(alloc, reader)?;
         add_rows(alloc, load, &rows)?;
-        if rows.len() < BATCH_ROWS {
+        if rows.len() < MAX_ROWS {
             return Ok(());
         }
     }

@@ -6,13 +6,11 @@ ghost use Rattle.replica_store.specs.Exchange.{AreOffered};
 ghost use Rattle.replica_store.specs.Replica.{batch_limit};
 ghost use Rattle.replica_files.specs.Loads.{added_batch, empty_load, row_count, batches_in, named_batches, named_entries, first_name};
 
+use replica_store::MAX_BATCHES;
 use segment_core::Segment;
 use std::alloc::{AllocError, Global};
 use std::marker::Model;
 use table_model::{BatchName, Number, Refusal, Rows, Schema, check_rows};
-
-/// How many batches a load has at most: as many as a replica may have.
-const MAX_BATCHES: usize = 1_048_576;
 
 /// Batches of a table's rows, coded, that wait for their names. Contracts see the schema and the rows of each batch.
 #[derive(Drop)]

@@ -3,7 +3,8 @@ use Rattle.std.specs.Prelude.{◌≡◌, ℕ, List, [], ◌∷◌, ◌++◌, Opt
 use Rattle.std.proofs.Common.{refl, sym, ap, ◌∙◌, append_assoc}
 use Rattle.table_model.specs.Table.{type_named}
 use Rattle.table_model.specs.declared.schema.ColType.{ColType}
-use Rattle.script_lines.specs.Word.{cut, pieces, some_text}
+use Rattle.script_lines.specs.Word.{cut, some_text}
+use Rattle.table_model.specs.Pieces.{pieces}
 use Rattle.script_lines.specs.Line.{column_of, columns_of}
 use Rattle.script_lines.proofs.Cuts.{pieces_at, pieces_cut}
 use Rattle.script_lines.proofs.RowLaws.{after_all}

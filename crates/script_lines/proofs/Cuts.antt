@@ -3,7 +3,8 @@ use Rattle.std.specs.Prelude.{◌≡◌, ◌≢◌, ℕ, suc, ◌+◌, ◌<◌, 
 use Rattle.std.specs.List.{position_or_len, before_first, after_first}
 use Rattle.std.proofs.Common.{refl, sym, ap, ◌∙◌, arith, Bor, add-one}
 use Rattle.std.proofs.lemmas.Bool.Decides.{nat_tests}
-use Rattle.script_lines.specs.Word.{cut, longer, pieces, onto_first, without}
+use Rattle.script_lines.specs.Word.{cut, longer}
+use Rattle.table_model.specs.Pieces.{pieces, onto_first, without}
 
 -- whether a byte is the separator
 abbrev pub is : ℕ → ℕ → Bool

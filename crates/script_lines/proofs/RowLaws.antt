@@ -7,7 +7,8 @@ use Rattle.std.proofs.lemmas.List.{nil_from_length}
 use Rattle.table_model.specs.State.{Cells, Batch}
 use Rattle.table_model.specs.declared.refusal.Refusal.{Refusal}
 use Rattle.table_model.specs.declared.refusal.Refusal.TheVariants.{Memory, BadLine}
-use Rattle.script_lines.specs.Word.{◌>>=◌, cut, pieces, onto_first, without, each_of, cell_of, cells_of, opened_cells, rows_from, rows_of}
+use Rattle.script_lines.specs.Word.{◌>>=◌, cut, each_of, cell_of, cells_of, opened_cells, rows_from, rows_of}
+use Rattle.table_model.specs.Pieces.{pieces, onto_first, without}
 use Rattle.script_lines.proofs.Cuts.{pieces_at, pieces_cut}
 
 -- a list before what is given, if anything is

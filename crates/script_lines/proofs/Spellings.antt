@@ -11,8 +11,9 @@ use Rattle.std.proofs.lemmas.Slice.Eq.{bytes_eq-Decides}
 use Rattle.std.proofs.lemmas.Option.{same_Some, some_pair_parts}
 use Rattle.std.proofs.lemmas.List.{append-nil}
 use Rattle.table_model.specs.State.{Cells, Batch}
-use Rattle.table_model.specs.Numeral.{is_numeral, value_digits, magnitude_of}
-use Rattle.script_lines.specs.Word.{◌>>=◌, cut, longer, pieces, without, each_of, signed_of, integer_of, cell_of, cells_of, opened_cells, rows_from, rows_of}
+use Rattle.table_model.specs.Numeral.{is_numeral, value_digits, magnitude_of, signed_of, integer_of}
+use Rattle.script_lines.specs.Word.{◌>>=◌, cut, longer, each_of, cell_of, cells_of, opened_cells, rows_from, rows_of}
+use Rattle.table_model.specs.Pieces.{pieces, without}
 use Rattle.script_lines.specs.Spelled.{SpellsNumber, SpellsValue, SpellsValues, SpellsRow, SpellsRows, RowsAreReadAsSpelled}
 use Rattle.script_lines.proofs.Cuts.{pieces_at, pieces_cut}
 use Rattle.script_lines.proofs.RowLaws.{first_piece, rows_first, rows_comma, rows_none, rows_no_comma, row_before}

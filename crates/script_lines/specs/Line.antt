@@ -4,7 +4,8 @@ use Rattle.std.specs.List.{list_all}
 use Rattle.std.specs.Option.{IsSomeAnd}
 use Rattle.table_model.specs.Table.{type_named}
 use Rattle.table_model.specs.declared.schema.ColType.{ColType}
-use Rattle.script_lines.specs.Word.{◌>>=◌, cut, pieces, number_of, number_digits, small_number, ordinal_of, name_of, rows_of, coding_of, some_text, file_of}
+use Rattle.script_lines.specs.Word.{◌>>=◌, cut, number_of, number_digits, small_number, ordinal_of, name_of, rows_of, coding_of, some_text, file_of}
+use Rattle.table_model.specs.Pieces.{pieces}
 use Rattle.script_lines.specs.TableWords.{TableWords}
 use Rattle.script_lines.specs.Verb.{leading}
 use Rattle.script_lines.specs.declared.verb.Verb.{Verb}

@@ -1,10 +1,11 @@
 -- Words of a line: texts cut at a byte, numbers, names of batches, values and rows.
-use Rattle.std.specs.Prelude.{ℕ, ◌==◌, cond, nat_le, List, [], ◌∷◌, codes, Option, Some, None, option_map, option_and_then, Result, Ok, Err, ℤ, pos, neg_ℤ}
+use Rattle.std.specs.Prelude.{ℕ, ◌==◌, cond, nat_le, List, [], ◌∷◌, codes, Option, Some, None, option_map, option_and_then, Result, Ok, Err, ℤ}
 use Rattle.std.specs.Str.{bytes_eq}
 use Rattle.std.specs.Str.Parse.{digits_value}
 use Rattle.hex.specs.Hex.{decode_of}
 use Rattle.hex.specs.declared.error.FromHexError.{FromHexError}
-use Rattle.table_model.specs.Numeral.{is_numeral, magnitude_of}
+use Rattle.table_model.specs.Numeral.{is_numeral, integer_of}
+use Rattle.table_model.specs.Pieces.{pieces, without}
 use Rattle.table_model.specs.State.{Cells, Batch}
 use Rattle.table_model.specs.declared.names.BatchName.{BatchName}
 use Rattle.segment_core.specs.declared.coding.Coding.{Coding}
@@ -23,21 +24,6 @@ longer c parts = (c ∷ parts.0, parts.1)
 abbrev pub cut : ℕ → List ℕ → Option (List ℕ × List ℕ)
 cut separator [] = None
 cut separator (c ∷ cs) = cond (c == separator) (Some ([], cs)) (option_map (longer c) (cut separator cs))
-
--- the texts with a byte before the first of them
-abbrev pub onto_first : ℕ → List (List ℕ) → List (List ℕ)
-onto_first c [] = (c ∷ []) ∷ []
-onto_first c (text ∷ texts) = (c ∷ text) ∷ texts
-
--- the pieces of a text between such bytes: one more than there are such bytes
-abbrev pub pieces : ℕ → List ℕ → List (List ℕ)
-pieces separator [] = [] ∷ []
-pieces separator (c ∷ cs) = cond (c == separator) ([] ∷ pieces separator cs) (onto_first c (pieces separator cs))
-
--- what follows such a byte at the head of a text
-abbrev pub without : ℕ → List ℕ → Option (List ℕ)
-without first [] = None
-without first (c ∷ cs) = cond (c == first) (Some cs) None
 
 -- what each element gives, where each gives something
 abbrev pub each_of : {X Y : Type 0} → (X → Option Y) → List X → Option (List Y)
@@ -71,15 +57,6 @@ name_of text = do
   origin ← small_number parts.0
   number ← small_number parts.1
   Some (record { origin = record { 0 = origin }; number = record { 0 = number } })
-
--- a number whose sign, if it has one, was taken off
-abbrev pub signed_of : List ℕ → Option (List ℕ) → Option ℤ
-signed_of text (Some digits) = option_map (λ n. neg_ℤ (pos n)) (magnitude_of digits)
-signed_of text None = option_map pos (magnitude_of text)
-
--- a whole number: an optional minus sign and 1 to value_digits digits
-abbrev pub integer_of : List ℕ → Option ℤ
-integer_of text = signed_of text (without 45 text)
 
 -- a value: NULL, or a whole number
 abbrev pub cell_of : List ℕ → Option (Option ℤ)

@@ -1,7 +1,7 @@
 //! The columns of a line that makes a table.
 ghost use Rattle.std.specs.Prelude.{◌≡◌, ◌∷◌, ◌<◌, ◌≤◌, map, option_map, option_and_then, IfSome};
 ghost use Rattle.script_lines.specs.Reading.{ReadsPart};
-ghost use Rattle.script_lines.specs.Word.{pieces};
+ghost use Rattle.table_model.specs.Pieces.{pieces};
 ghost use Rattle.script_lines.specs.Line.{columns_of, words_left, left_len};
 
 use crate::words::{cut, some_text};

@@ -10,12 +10,10 @@ use crate::columns::columns;
 use crate::command::{Command, TableCommand};
 use crate::rows::rows;
 use crate::verb::{Verb, leading};
-use crate::words::{
-    NUMBER_DIGITS, batch_name, coding, cut, file, number, ordinal, small_number, some_text,
-};
+use crate::words::{batch_name, coding, cut, file, number, ordinal, small_number, some_text};
 use cluster_history::{REPLICA_LIMIT, Sql, Step};
 use std::alloc::Global;
-use table_model::{Refusal, RowName};
+use table_model::{NUMBER_DIGITS, Refusal, RowName};
 
 /// The command that a line is, without its line feed; `BadLine` if it is not a command.
 ///

@@ -1,7 +1,8 @@
 //! Rows of a line: values in parentheses, joined by commas.
 ghost use Rattle.std.specs.Prelude.{◌≡◌, None, Err};
 ghost use Rattle.script_lines.specs.Reading.{ReadsPart};
-ghost use Rattle.script_lines.specs.Word.{without, cells_of, opened_cells, rows_of};
+ghost use Rattle.script_lines.specs.Word.{cells_of, opened_cells, rows_of};
+ghost use Rattle.table_model.specs.Pieces.{without};
 
 use crate::words::{cell, cut, without};
 use std::alloc::Global;

@@ -1,20 +1,18 @@
 //! Words of a line: numbers, names of batches, values and rows.
 ghost use Rattle.std.specs.Prelude.{◌≡◌, ◌<◌, ◌≤◌, ◌%◌, length, option_map, IfSome, Err};
-ghost use Rattle.table_model.specs.Numeral.{value_digits};
+ghost use Rattle.table_model.specs.Numeral.{value_digits, integer_of};
 ghost use Rattle.script_lines.specs.Reading.{ReadsPart};
-ghost use Rattle.script_lines.specs.Word.{cut, without, number_of, small_number, ordinal_of, name_of, integer_of, cell_of, coding_of, some_text, file_of};
+ghost use Rattle.script_lines.specs.Word.{cut, number_of, small_number, ordinal_of, name_of, cell_of, coding_of, some_text, file_of};
+ghost use Rattle.table_model.specs.Pieces.{without};
 
 use cluster_history::FileBytes;
 use hex::FromHexError;
 use segment_core::Coding;
 use std::alloc::Global;
-use table_model::{BatchName, Number, Origin, Refusal, digits_value, is_numeral, magnitude};
-
-/// How many digits a number of 32 bits is written with at most.
-pub const NUMBER_DIGITS: usize = 10;
-
-/// How many digits an ordinal is written with at most.
-const ORDINAL_DIGITS: usize = 5;
+use table_model::{
+    BatchName, NUMBER_DIGITS, Number, ORDINAL_DIGITS, Origin, Refusal, digits_value, is_numeral,
+    magnitude,
+};
 
 /// What is before the first such character and what is after it, if there is one.
 pub fn cut(text: &str, separator: char) -> Option<(&str, &str)>

@@ -37,4 +37,4 @@ pub use laws::{
     least_form_gives_back, segments_have_bytes,
 };
 pub use segment::Segment;
-pub use writing::{write_number, write_value, write_whole};
+pub use writing::{write_number, write_whole};

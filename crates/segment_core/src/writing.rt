@@ -36,7 +36,7 @@ pub fn write_number<W: Write>(
 }
 
 /// Writes a value of `lane_width` bits, 8, 16, 32 or 64, in two's complement, the lowest byte first.
-pub fn write_value<W: Write>(
+pub(crate) fn write_value<W: Write>(
     writer: &mut Counted<W>,
     value: i64,
     lane_width: usize,

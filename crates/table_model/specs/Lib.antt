@@ -13,6 +13,7 @@ pub mod Numeral
 pub mod Operation
 pub mod Outcome
 pub mod Passes
+pub mod Pieces
 pub mod Query
 pub mod QueryCode
 pub mod QueryFalls

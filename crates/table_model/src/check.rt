@@ -8,7 +8,10 @@ use crate::rows::Rows;
 use crate::schema::{Column, Schema};
 
 /// The greatest number of rows in a batch.
-const MAX_ROWS: usize = 65_536;
+pub const MAX_ROWS: usize = 65_536;
+
+/// The greatest number of rows that a query goes over, so that sums fit 128 bits. Batches of a replica have no more.
+pub const MAX_STATE_ROWS: usize = 1 << 36;
 
 /// Whether a batch of the table can have these rows, or their first fault.
 ///

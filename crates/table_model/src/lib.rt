@@ -19,7 +19,7 @@ mod schema;
 mod truth;
 
 pub use answer::{Answer, AnswerRow, Field};
-pub use check::check_rows;
+pub use check::{MAX_ROWS, MAX_STATE_ROWS, check_rows};
 pub use counted::{Counted, READ_LIMIT};
 pub use extreme::Extreme;
 pub use identifier::{MAX_WORD, is_identifier, is_keyword, is_word_byte, same_text, same_word};
@@ -27,8 +27,8 @@ pub use laws::{
     answer_laws, group_laws, join_laws, operation_laws, predicate_laws, sameness_laws, sum_bounds,
     truth_laws, value_laws, worked_answers,
 };
-pub use names::{BatchName, Number, Origin, RowName};
-pub use numerals::{digits_value, is_numeral, magnitude};
+pub use names::{BatchName, NUMBER_DIGITS, Number, ORDINAL_DIGITS, Origin, RowName};
+pub use numerals::{VALUE_DIGITS, digits_value, is_numeral, magnitude};
 pub use op::{MILLION, Op};
 pub use place::Place;
 pub use query::{

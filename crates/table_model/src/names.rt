@@ -5,6 +5,12 @@ ghost use Rattle.table_model.specs.Name.{is_proper_name, name_cmp, name_text, ro
 use std::cmp::Ordering;
 use std::fmt;
 
+/// The most digits that an origin or a batch's number is written with.
+pub const NUMBER_DIGITS: usize = 10;
+
+/// The most digits that a row's place in its batch is written with.
+pub const ORDINAL_DIGITS: usize = 5;
+
 /// The site that numbers a batch: from 1 to `u32::MAX` in a proper name.
 #[derive(Clone, Copy, Debug, PartialEq, Eq, PartialOrd, Ord)]
 pub struct Origin(pub u32);

@@ -6,7 +6,7 @@ ghost use Rattle.std.specs.Str.Parse.{digits_value};
 ghost use Rattle.table_model.specs.Numeral.{is_numeral, magnitude_of, value_digits};
 
 /// The most digits that a value is written with, not counting its sign.
-const VALUE_DIGITS: usize = 30;
+pub const VALUE_DIGITS: usize = 30;
 
 /// How many digits write a number of 64 bits, whichever they are.
 const WORD_DIGITS: usize = 19;

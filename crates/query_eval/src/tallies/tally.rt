@@ -20,11 +20,8 @@ use crate::tallies::field_values::{sum_field, values_field, whole_field};
 use crate::tallies::masked_folds::{count_at, extreme_at, sum_at};
 use std::alloc::{AllocError, Global};
 use std::collections::HashSet;
-use table_model::{Extreme, Field, Fold, MILLION};
+use table_model::{Extreme, Field, Fold, MAX_STATE_ROWS, MILLION};
 use transpose_order::Mask;
-
-/// How many values of a column a set function is exact of.
-const MOST: usize = 1 << 36;
 
 /// What a set function keeps of a group's values.
 #[derive(Clone, Copy, Debug)]
@@ -161,7 +158,7 @@ fn set_field(alloc: Global, fold: Fold, seen: &HashSet<i64>) -> Result<Field, Al
     ensures { IfOk result (λ field. (values : List ℤ) → length values ≤ state_row_limit → AreAlike seen.now.keys values → field ≡ fold_value fold (distinct values)) }
 {
     let values = set_values(alloc, seen)?;
-    if values.len() > MOST {
+    if values.len() > MAX_STATE_ROWS {
         return Ok(Field::Null);
     }
     Ok(values_field(fold, values.as_slice()))

@@ -12,6 +12,6 @@ returns-clause-value c =
     c.values_field.ensures ∙ sym (fold-rising c.args.fold _ c.values-values.ensures.rising)
     ∙ ap (λ (s : Seen). fold_value c.args.fold (finite.keys s)) c.values-values.ensures.value
 
-pub returns-then-values-gt-MOST-clause-refused : goal.returns-then-values-gt-MOST-clause-refused
-returns-then-values-gt-MOST-clause-refused c =
-    (refl, λ can. absurd (omega (arith, c.if-values-gt-MOST.true, few_values c.args.kept.now c.values-values.result.now c.values-values.ensures.rising c.values-values.ensures.value can)))
+pub returns-then-values-gt-MAX_STATE_ROWS-clause-refused : goal.returns-then-values-gt-MAX_STATE_ROWS-clause-refused
+returns-then-values-gt-MAX_STATE_ROWS-clause-refused c =
+    (refl, λ can. absurd (omega (arith, c.if-values-gt-MAX_STATE_ROWS.true, few_values c.args.kept.now c.values-values.result.now c.values-values.ensures.rising c.values-values.ensures.value can)))

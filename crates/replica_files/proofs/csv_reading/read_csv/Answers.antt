@@ -56,21 +56,21 @@ returns-in_err-add_rows-clause-counts g c =
     let p = err_from_is_err_and c.from_residual-in_err-add_rows.result c.from_residual-in_err-add_rows.ensures.1 in
     rw (p.1, p.2) (adding_counts c.loop-round.load c.in_ok-rows.rows c.in_err-add_rows.field-0.0 (read_limit < c.next_batch.new.self.given) c.args.reader.now.1 c.loop-round.reader.1 c.next_batch.new.reader.1 c.in_err-add_rows.ensures.refused c.loop-round.invariant.kept c.in_ok-rows.ensures.kept)
 
-pub returns-then-len-lt-BATCH_ROWS-clause-loaded : goal.returns-then-len-lt-BATCH_ROWS-clause-loaded
-returns-then-len-lt-BATCH_ROWS-clause-loaded g c =
+pub returns-then-len-lt-MAX_ROWS-clause-loaded : goal.returns-then-len-lt-MAX_ROWS-clause-loaded
+returns-then-len-lt-MAX_ROWS-clause-loaded g c =
     load_ends c.args.csv.now c.loop-round.csv c.next_batch.new.self (g.R.Read.remaining c.args.reader.now.0) (g.R.Read.remaining c.loop-round.reader.0) (g.R.Read.remaining c.next_batch.new.reader.0) c.args.load.now c.loop-round.load c.add_rows.new.load c.in_ok-rows.rows
-    c.loop-round.invariant.so c.in_ok-rows.ensures.rows c.in_ok-add_rows.ensures.added (c.in_ok-rows.ensures.end (omega (arith, c.if-len-lt-BATCH_ROWS.true, c.len.ensures)))
+    c.loop-round.invariant.so c.in_ok-rows.ensures.rows c.in_ok-add_rows.ensures.added (c.in_ok-rows.ensures.end (omega (arith, c.if-len-lt-MAX_ROWS.true, c.len.ensures)))
 
-pub returns-then-len-lt-BATCH_ROWS-clause-came : goal.returns-then-len-lt-BATCH_ROWS-clause-came
-returns-then-len-lt-BATCH_ROWS-clause-came g c =
+pub returns-then-len-lt-MAX_ROWS-clause-came : goal.returns-then-len-lt-MAX_ROWS-clause-came
+returns-then-len-lt-MAX_ROWS-clause-came g c =
     came_on c.args.csv.now.given c.loop-round.csv.given c.next_batch.new.self.given (g.R.Read.remaining c.args.reader.now.0) (g.R.Read.remaining c.loop-round.reader.0) (g.R.Read.remaining c.next_batch.new.reader.0) c.loop-round.invariant.came c.in_ok-rows.ensures.came
 
-pub returns-then-len-lt-BATCH_ROWS-clause-kept : goal.returns-then-len-lt-BATCH_ROWS-clause-kept
-returns-then-len-lt-BATCH_ROWS-clause-kept g c = c.in_ok-rows.ensures.kept ∙ c.loop-round.invariant.kept
+pub returns-then-len-lt-MAX_ROWS-clause-kept : goal.returns-then-len-lt-MAX_ROWS-clause-kept
+returns-then-len-lt-MAX_ROWS-clause-kept g c = c.in_ok-rows.ensures.kept ∙ c.loop-round.invariant.kept
 
 pub loop-round-preserved : goal.loop-round-preserved
 loop-round-preserved g c =
-    let full : length c.in_ok-rows.rows ≡ 65536 = omega (arith, c.in_ok-rows.ensures.limit, c.if-len-lt-BATCH_ROWS.false, c.len.ensures) in
+    let full : length c.in_ok-rows.rows ≡ 65536 = omega (arith, c.in_ok-rows.ensures.limit, c.if-len-lt-MAX_ROWS.false, c.len.ensures) in
     record {
       so = load_next c.args.csv.now c.loop-round.csv c.next_batch.new.self (g.R.Read.remaining c.args.reader.now.0) (g.R.Read.remaining c.loop-round.reader.0) (g.R.Read.remaining c.next_batch.new.reader.0) c.args.load.now c.loop-round.load c.add_rows.new.load c.in_ok-rows.rows
           c.loop-round.invariant.so c.in_ok-rows.ensures.rows c.in_ok-add_rows.ensures.added full;

@@ -1,5 +1,5 @@
 use Rattle.std.proofs.Common.{◌≡◌, map, option_map}
-use Rattle.script_lines.specs.Word.{pieces}
+use Rattle.table_model.specs.Pieces.{pieces}
 use Rattle.script_lines.specs.Line.{columns_of, words_left, left_len}
 use Rattle.script_lines.proofs.RowLaws.{after_all}
 use Rattle.script_lines.proofs.columns.columns.Given as goal

@@ -1,6 +1,7 @@
 use Rattle.std.proofs.Common.{◌≡◌, sym, ◌∙◌, rules, inl, refl, ap, Some, None, ◌++◌, ◌∷◌, []}
 use Rattle.std.proofs.lemmas.Result.{err_from_is_err_and}
-use Rattle.script_lines.specs.Word.{rows_of, without, cut}
+use Rattle.script_lines.specs.Word.{rows_of, cut}
+use Rattle.table_model.specs.Pieces.{without}
 use Rattle.script_lines.proofs.RowLaws.{rows_more, rows_all, rows_none, rows_no_more, rows_unread, after_all}
 use Rattle.script_lines.proofs.rows.rows.Goals as goal
 

@@ -1,6 +1,6 @@
 use Rattle.std.proofs.Common.{◌≡◌, ◌+◌, [], length, option_map}
 use Rattle.csv_rows.specs.Field.{fields_left, left_len}
-use Rattle.csv_rows.specs.Line.{pieces}
+use Rattle.table_model.specs.Pieces.{pieces}
 use Rattle.csv_rows.specs.Wording.{order_by}
 use Rattle.csv_rows.proofs.order.Order.of_words.Given as goal
 

@@ -4,10 +4,10 @@ use Rattle.table_model.specs.Meaning.{fold_value}
 use Rattle.query_eval.proofs.DistinctLemmas.{folded-alike, set_few}
 use Rattle.query_eval.proofs.tallies.tally.set_field.Goals as goal
 
-pub returns-then-len-gt-MOST : goal.returns-then-len-gt-MOST
-returns-then-len-gt-MOST c = λ values few same.
+pub returns-then-len-gt-MAX_STATE_ROWS : goal.returns-then-len-gt-MAX_STATE_ROWS
+returns-then-len-gt-MAX_STATE_ROWS c = λ values few same.
     let fewer = set_few c.args.seen.now.keys values c.in_ok-values.ensures.apart same in
-    absurd (omega (arith, few, fewer, ap length c.in_ok-values.ensures.values, c.len.ensures, c.if-len-gt-MOST.true))
+    absurd (omega (arith, few, fewer, ap length c.in_ok-values.ensures.values, c.len.ensures, c.if-len-gt-MAX_STATE_ROWS.true))
 
 pub returns : goal.returns
 returns c = λ values few same.
