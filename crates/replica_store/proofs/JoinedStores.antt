@@ -1,5 +1,5 @@
 -- Two stores that agree are joined with a third one by joining it to the second.
-use Rattle.std.specs.Prelude.{◌≡◌, ◌⊎◌, ◌≤◌, ◌+◌, ◌==◌, ℕ, length, Bool, true, false, cond, ◌||◌, T, List, [], ◌∷◌, Option, Some, None, Ok, Err, is_ok, IsOk, IfOk, Result}
+use Rattle.std.specs.Prelude.{◌≡◌, ◌⊎◌, ◌≤◌, ◌+◌, ◌==◌, length, Bool, true, false, cond, ◌||◌, T, List, [], ◌∷◌, Option, Some, None, Ok, Err, is_ok, IsOk, IfOk, Result}
 use Rattle.std.proofs.Common.{refl, sym, ap, subst, ◌∙◌, arith, inl, inr}
 use Rattle.std.specs.FinMap as map
 use Rattle.std.specs.FinSet as set
@@ -20,7 +20,7 @@ use Rattle.replica_store.specs.Replica.{Replica, new_replica, with_join, merged,
 use Rattle.replica_store.specs.MergeLaws.{Merges}
 use Rattle.replica_store.specs.Segments.{StoreForm, Entry, rows_in}
 use Rattle.replica_store.specs.Joined.{joined_stores, AreJoined}
-use Rattle.replica_store.proofs.MergeAnswers.{IsMerge, is_merge, merges}
+use Rattle.replica_store.proofs.MergeAnswers.{is_merge, merges}
 use Rattle.replica_store.proofs.Limits.{same_Ok}
 use Rattle.replica_store.proofs.Maps.{as_map}
 use Rattle.replica_store.proofs.Merges.{len-union, union-same, map_of_entries}
@@ -123,7 +123,7 @@ or_none : (b : Bool) → (b || false) ≡ b
 or_none true = refl
 or_none false = refl
 
-new_is : (t : Table) (o : Origin) (r : Replica) → new_replica t o ≡ Ok r → r ≡ record { schema = t; own = o; state = empty_state }
+pub new_is : (t : Table) (o : Origin) (r : Replica) → new_replica t o ≡ Ok r → r ≡ record { schema = t; own = o; state = empty_state }
 new_is t o r e =
     let made : Replica = record { schema = t; own = o; state = empty_state } in
     elim (o.0 == 0) as (λ b. cond b (Err BadName) (Ok made) ≡ Ok r → r ≡ made) [

@@ -26,3 +26,4 @@ pub mod Taken
 pub mod RowLists
 pub mod RecodeAnswers
 pub mod JoinedStores
+pub mod Brings

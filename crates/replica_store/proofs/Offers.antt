@@ -83,6 +83,14 @@ All-lacked t names (e ∷ es) all =
       | false ↦ all_more t e (lacked_by names es) (all 0 e (omega arith)) rest
     ]
 
+-- what is left of an offer may be offered
+pub AreOffered-kept : (t : Table) (names : set.FinSet name_cmp) (es : List Entry) → AreOffered t es → AreOffered t (lacked_by names es)
+AreOffered-kept t names es offered = record {
+  sorted = Sorted-lacked names es offered.sorted;
+  limit = omega (arith, offered.limit, length-lacked names es);
+  stored = All-lacked t names es offered.stored;
+}
+
 -- what a store holds beside the names may be offered
 pub AreOffered-lacked : (t : Table) (names : set.FinSet name_cmp) (m : map.FinMap name_cmp SegmentForm) → AreStored t m → map.len m ≤ batch_limit → AreOffered t (lacked_by names (map.entries m))
 AreOffered-lacked t names m stored limit = record {

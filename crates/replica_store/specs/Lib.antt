@@ -9,3 +9,4 @@ pub mod ExchangeLaws
 pub mod RecodeLaws
 pub mod ForgetStoreLaws
 pub mod Joined
+pub mod Brought

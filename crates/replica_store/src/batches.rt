@@ -154,6 +154,16 @@ impl Batches {
         }
     }
 
+    /// Whether the batch of this name has other rows here, or among some more batches if it isn't here, however it is coded.
+    fn differs_in_either(&self, more: &Batches, name: BatchName, other: &Segment) -> bool
+        ensures { result ≡ differs (map.get (union_of (rows_in self.now.segments) (rows_in more.now.segments)) name) other.now.rows }
+    {
+        match self.get(name) {
+            None => more.differs(name, other),
+            Some(found) => !found.same_rows(other),
+        }
+    }
+
     /// The first of the other batches, which come in two parts that follow each other, that has other rows here under its name.
     pub fn conflict_with(
         &self,
@@ -397,7 +407,7 @@ fn keep_live(entries: &mut Vec<(BatchName, Segment)>, deleted: &Tombs)
 }
 
 /// Keeps the batches whose names aren't among these.
-fn keep_lacked(batches: &mut Vec<(BatchName, Segment)>, names: &Held)
+pub(crate) fn keep_lacked(batches: &mut Vec<(BatchName, Segment)>, names: &Held)
     ensures { batches.new.items ≡ lacked_by names.now batches.old.items }
 {
     batches.retain(|batch| !names.holds(batch.0));
@@ -543,6 +553,22 @@ fn first_conflict(ours: &Batches, theirs: &[(BatchName, Segment)]) -> Option<Bat
     None
 }
 
+/// The first of these batches that has other rows in one of two stores.
+pub(crate) fn conflict_in_either(
+    ours: &Batches,
+    more: &Batches,
+    theirs: &[(BatchName, Segment)],
+) -> Option<BatchName>
+    ensures { result ≡ conflict_in (union_of (rows_in ours.now.segments) (rows_in more.now.segments)) theirs.now }
+{
+    for (name, segment) in theirs {
+        if ours.differs_in_either(more, *name, segment) {
+            return Some(*name);
+        }
+    }
+    None
+}
+
 /// The names of batches that are in ascending order, as a set of their own. Each of them extends the last run or begins the next.
 pub(crate) fn names_held(
     alloc: Global,
@@ -566,6 +592,26 @@ fn count_lacked(names: &Held, batches: &[(BatchName, Segment)]) -> usize
     let mut count = 0;
     for (name, _) in batches {
         if !names.holds(*name) {
+            count += 1;
+        }
+    }
+    count
+}
+
+/// Whether the name is among these or among some more.
+fn holds_either(names: &Held, more: &Held, name: BatchName) -> bool
+    ensures { result ≡ set.contains (set.union names.now more.now) name }
+{
+    names.holds(name) || more.holds(name)
+}
+
+/// How many of these batches have names that aren't among these, nor among some more.
+pub(crate) fn count_new(names: &Held, more: &Held, batches: &[(BatchName, Segment)]) -> usize
+    ensures { result ≡ length (lacked_by (set.union names.now more.now) batches.now) }
+{
+    let mut count = 0;
+    for (name, _) in batches {
+        if !holds_either(names, more, *name) {
             count += 1;
         }
     }

@@ -2,6 +2,7 @@
 #![tactic(auto)]
 
 mod batches;
+mod brought;
 mod inserted;
 mod joined;
 mod laws;
@@ -9,6 +10,7 @@ mod offer;
 mod store;
 mod summary;
 
+pub use brought::Brought;
 pub use inserted::Inserted;
 pub use joined::Joined;
 pub use laws::{exchange_laws, forget_store_laws, keeping_laws, merge_laws};

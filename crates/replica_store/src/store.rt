@@ -1,6 +1,6 @@
 //! A replica's store: a table's schema, an own origin, and a state that appends, inserts, deletes, merges and applied messages
 //! change.
-ghost use Rattle.std.specs.Prelude.{◌++◌, ◌≡◌, ◌<◌, ◌≤◌, slice_get, Some, None, Ok, Err, true, false, is_ok, IsOk, IfOk, IfErr, OnOk, OnErr, IsTrue, T};
+ghost use Rattle.std.specs.Prelude.{nat_lt, ◌++◌, ◌≡◌, ◌<◌, ◌≤◌, slice_get, Some, None, Ok, Err, true, false, is_ok, IsOk, IfOk, IfErr, OnOk, OnErr, IsTrue, T};
 ghost use Rattle.std.specs.FinMap as map;
 ghost use Rattle.std.specs.List.{All, list_all};
 ghost use Rattle.table_model.specs.Name.{name_cmp, is_proper_name};
@@ -11,14 +11,17 @@ ghost use Rattle.segment_core.specs.Segment.{canonical_segment, widths_in, width
 ghost use Rattle.segment_core.specs.SegmentBytes.{HasBytesIn};
 ghost use Rattle.forgotten_batches.specs.Forgotten.{forgotten};
 ghost use Rattle.replica_store.specs.Forgets.{live_segments, forgotten_batches};
-ghost use Rattle.replica_store.specs.Exchange.{summary_of, offered, unlisted, applied, opened};
+ghost use Rattle.replica_store.specs.Brought.{IsBrought, unheld_state};
+ghost use Rattle.replica_store.specs.Exchange.{summary_of, offered, unlisted, unlisted_state, applied, opened};
 ghost use Rattle.replica_store.specs.Parted.{AreParted};
-ghost use Rattle.replica_store.specs.Replica.{Replica, IsWithinLimits, new_replica, entries_of, names_of, appended, inserted, merged, merge_fault, next_name, place_for, replica_with, with_batch, number_after, greatest_number, joined_with, deleted_rows, delete_fault, deleted_names, names_fault, recoded_rows, recode_fault, batch_limit, SaysChange};
+ghost use Rattle.replica_store.specs.Replica.{Replica, IsWithinLimits, new_replica, entries_of, names_of, appended, inserted, merged, merge_fault, next_name, place_for, replica_with, with_batch, with_join, conflict_with, number_after, greatest_number, joined_with, deleted_rows, delete_fault, deleted_names, names_fault, recoded_rows, recode_fault, batch_limit, SaysChange};
 ghost use Rattle.replica_store.specs.Segments.{rows_in, recoded_in, AreStored, IsStored, IsSoundStore, HasVector};
 ghost use Rattle.segment_core.specs.declared.coding.Coding.{Coding};
 ghost use Rattle.replica_store.specs.declared.inserted.Inserted.TheVariants.{New, Already};
 
-use crate::batches::{Batches, copies_lacked, names_held};
+use crate::batches::{
+    Batches, conflict_in_either, copies_lacked, count_new, keep_lacked, names_held,
+};
 use crate::inserted::Inserted;
 use crate::offer::Offer;
 use crate::summary::Summary;
@@ -375,6 +378,80 @@ impl Store {
         let names = names_held(alloc, entries.as_slice())?;
         self.move_all(alloc, entries, &names, &tombs)?;
         Ok(true)
+    }
+
+    /// Adds what an offer has and another store has not: the batches whose names aren't held there, and all deletions. The offer's
+    /// segments are moved into this store, so none is copied.
+    ///
+    /// It is refused as it would be by the one store that has what both have: `SchemaDiffers`, `Conflict` with the least name that has
+    /// two lists of rows, `Full` if there would be more than 1,048,576 batches, `Memory`.
+    pub(crate) fn bring(&mut self, alloc: Global, held: &Store, offer: Offer) -> Result<(), Refusal>
+        requires { IsBrought held.now self.old }
+        ensures acts { Acts (λ done. done) (with_join held.now.replica self.old.replica) result (with_join held.now.replica self.new.replica) (applied (with_join held.now.replica self.old.replica) offer) }
+        ensures brought { OnOk result (self.new.replica ≡ joined_with self.old.replica (unheld_state held.now.replica offer.state)) }
+        ensures segments { OnOk result (self.new.segments ≡ union_of self.old.segments (unlisted (names_of held.now.replica.state.batches) offer.segments)) }
+        ensures is_brought { IsBrought held.now self.new }
+        ensures refused { OnErr result (self.new ≡ self.old) }
+    {
+        self.bring_fault(held, &offer)?;
+        self.move_new(alloc, held.batches.names(), offer)?;
+        Ok(())
+    }
+
+    /// Why an offer is refused by the one store that has what another one and this one have, if it is.
+    #[tactic(auto, unfolding(crate::specs::Replica::merge_fault))]
+    fn bring_fault(&self, held: &Store, offer: &Offer) -> Result<(), Refusal>
+        requires { IsBrought held.now self.now }
+        ensures { result ≡ unless (merge_fault (with_join held.now.replica self.now.replica) (replica_with offer.now.schema offer.now.state.batches)) }
+    {
+        if !held.schema.same(offer.schema()) {
+            return Err(Refusal::SchemaDiffers);
+        }
+        if let Some(name) = self.conflict_in_either(held, offer) {
+            return Err(Refusal::Conflict(name));
+        }
+        if self.exceeds_with(held, offer) {
+            return Err(Refusal::Full);
+        }
+        Ok(())
+    }
+
+    /// The first of an offer's batches that has other rows here or in another store.
+    fn conflict_in_either(&self, held: &Store, offer: &Offer) -> Option<BatchName>
+        ensures { result ≡ conflict_with (union_of held.now.replica.state.batches self.now.replica.state.batches) (map.entries offer.now.state.batches) }
+    {
+        conflict_in_either(&held.batches, &self.batches, offer.entries())
+    }
+
+    /// Whether another store, this one and an offer have more batches together than a store may.
+    fn exceeds_with(&self, held: &Store, offer: &Offer) -> bool
+        requires { IsBrought held.now self.now }
+        ensures { result ≡ nat_lt batch_limit (map.len (union_of (union_of held.now.replica.state.batches self.now.replica.state.batches) offer.now.state.batches)) }
+    {
+        let room = MAX_BATCHES - (held.batches() + self.batches());
+        count_new(held.batches.names(), self.batches.names(), offer.entries()) > room
+    }
+
+    /// Moves the batches of an offer that aren't among these names into the store, and its deletions.
+    fn move_new(&mut self, alloc: Global, names: &Held, offer: Offer) -> Result<(), AllocError>
+        requires schema { self.old.replica.schema ≡ offer.schema }
+        requires limit { map.len (union_of self.old.replica.state.batches (unlisted names.now offer.state.batches)) ≤ batch_limit }
+        ensures ok { OnOk result (self.new.replica ≡ joined_with self.old.replica (unlisted_state names.now offer.state)) }
+        ensures segments { OnOk result (self.new.segments ≡ union_of self.old.segments (unlisted names.now offer.segments)) }
+        ensures err { OnErr result (self.new ≡ self.old) }
+    {
+        let (mut entries, tombs) = offer.into_parts();
+        keep_lacked(&mut entries, names);
+        let come = names_held(alloc, entries.as_slice())?;
+        self.move_all(alloc, entries, &come, &tombs)
+    }
+
+    /// Whether a store that is brought to this one has a batch or a deletion that is missing here.
+    pub(crate) fn lacks_of(&self, brought: &Store) -> bool
+        ensures { SaysChange result self.now.replica (with_join self.now.replica brought.now.replica) }
+    {
+        let (first, second) = brought.batches.parts();
+        !self.has_all(first, second, &brought.tombs)
     }
 
     /// Puts a vector of a batch into another coding, in the least form that the coding has; no row changes. Columns and vectors

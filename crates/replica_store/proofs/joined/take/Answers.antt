@@ -1,5 +1,4 @@
 -- What comes to the second comes to the join.
-use Rattle.std.specs.Prelude.{◌≡◌}
 use Rattle.std.proofs.Common.{sym, ap, ◌∙◌}
 use Rattle.table_model.specs.State.{union_of}
 use Rattle.replica_store.specs.Joined.{joined_stores}

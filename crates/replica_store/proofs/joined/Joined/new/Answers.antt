@@ -1,5 +1,5 @@
 -- Beside a store without batches a store is the whole.
-use Rattle.std.specs.Prelude.{◌≡◌, ◌≤◌, Ok, Result}
+use Rattle.std.specs.Prelude.{◌≤◌, Ok, Result}
 use Rattle.std.proofs.Common.{sym, ap, subst}
 use Rattle.std.specs.FinMap as map
 use Rattle.table_model.specs.declared.refusal.Refusal.{Refusal}

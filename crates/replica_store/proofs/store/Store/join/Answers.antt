@@ -1,5 +1,5 @@
 -- The other store's entries and deletions are moved in.
-use Rattle.std.specs.Prelude.{◌≡◌, ◌≤◌, Ok, Result}
+use Rattle.std.specs.Prelude.{◌≤◌, Ok, Result}
 use Rattle.std.proofs.Common.{sym, ap, subst, ◌∙◌}
 use Rattle.std.specs.FinMap as map
 use Rattle.table_model.specs.Name.{name_cmp}
@@ -7,7 +7,7 @@ use Rattle.table_model.specs.State.{Batch, union_of}
 use Rattle.table_model.specs.Table.{Table}
 use Rattle.table_model.specs.declared.refusal.Refusal.{Refusal}
 use Rattle.replica_store.specs.Replica.{Replica, batch_limit, joined_with, with_join, names_of}
-use Rattle.replica_store.specs.Segments.{StoreForm, AreStored, rows_in}
+use Rattle.replica_store.specs.Segments.{StoreForm, AreStored}
 use Rattle.replica_store.proofs.JoinedStores.{whole, in_order, rows_are, ok_merges}
 use Rattle.replica_store.proofs.Maps.{as_map}
 use Rattle.replica_store.proofs.MergeAnswers.{is_merge}
