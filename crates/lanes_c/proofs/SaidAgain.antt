@@ -1,6 +1,6 @@
 -- The number and the place of a fault say its refusal again.
-use Rattle.std.specs.Prelude.{◌≡◌, ℕ, ◌<◌, ◌%◌, ◌==◌, nat_lt, Bool, false, Option, Some, None}
-use Rattle.std.proofs.Common.{refl, sym, ap, ◌∙◌, arith}
+use Rattle.std.specs.Prelude.{◌≡◌, ◌⊎◌, ℕ, ◌<◌, ◌%◌, ◌==◌, nat_lt, Bool, false, List, [], codes, Option, Some, None}
+use Rattle.std.proofs.Common.{refl, sym, ap, ◌∙◌, inl, inr, arith}
 use Rattle.std.proofs.lemmas.Bool.Decides.{nat_tests}
 use Rattle.std.proofs.Math.Nat.{mod-eq_of_lt}
 use Rattle.table_model.specs.RefusalText.{number_of, place_of as named_by}
@@ -13,7 +13,7 @@ use Rattle.lanes_c.specs.declared.fault.Place.{Place}
 use Rattle.lanes_c.specs.declared.fault.Fault.{Fault}
 use Rattle.lanes_c.specs.declared.fault.Fault.TheVariants as faults
 use Rattle.lanes_c.specs.Faults.{pair, nowhere, place_of, number_of_fault, place_of_fault}
-use Rattle.lanes_c.specs.Names.{batch_of, refusal_at, own_refusal_at, or_own, command_refusal_at, refusal_of_fault, IsShort, HasShort, HasOne, IsTold, SaysAgain}
+use Rattle.lanes_c.specs.Names.{batch_of, refusal_at, own_refusal_at, or_own, command_refusal_at, refusal_of_fault, IsShort, HasShort, HasOne, IsTold, SaysAgain, IsSentenceOf}
 
 -- numbers of 32 bits are as they were
 batch_again : (name : BatchName) → IsShort name → batch_of (pair name.origin.0 name.number.0) ≡ name
@@ -141,3 +141,26 @@ none_past n place past = ap (λ (found : Option Refusal). or_own found (own_refu
 
 pub none_at_0 : (n : ℕ) (place : Place) → n ≡ 0 → command_refusal_at n place ≡ None
 none_at_0 n place zero = ap (λ (k : ℕ). command_refusal_at k place) zero
+
+-- no other number is 0 or past 43
+pub no_refusal : (n : ℕ) (place : Place) → (n ≡ 0) ⊎ (43 < n) → command_refusal_at n place ≡ None
+no_refusal n place (inl zero) = none_at_0 n place zero
+no_refusal n place (inr past) = none_past n place past
+
+-- ---- sentences
+
+pub nothing_said : (number : ℕ) → IsSentenceOf number []
+nothing_said number = ((λ closed. inl refl), (λ none. refl))
+
+pub closed_said : (number : ℕ) (text : List ℕ) → number ≡ 39 → text ≡ codes "no file is open in this handle" → IsSentenceOf number text
+closed_said number text closed is = ((λ same. inr is), no)
+  where
+    no : (number ≡ 0) ⊎ (43 < number) → text ≡ []
+    no (inl zero) = absurd (omega (arith, zero, closed))
+    no (inr past) = absurd (omega (arith, past, closed))
+
+one_is_there : (said : Option CommandRefusal) (refusal : CommandRefusal) → said ≡ Some refusal → said ≡ None → ⊥
+one_is_there said refusal some none = cc
+
+pub other_said : (number : ℕ) (said : Option CommandRefusal) (refusal : CommandRefusal) (text : List ℕ) → ((number ≡ 39) → ⊥) → said ≡ Some refusal → ((number ≡ 0) ⊎ (43 < number) → said ≡ None) → IsSentenceOf number text
+other_said number said refusal text open is none = ((λ closed. absurd (open closed)), (λ no. absurd (one_is_there said refusal is (none no))))
