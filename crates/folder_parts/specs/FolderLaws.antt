@@ -121,6 +121,14 @@ NamedPartBrings =
     AreAgreeing ops → part_of_named_load load first (replica_of table ops) ≡ Ok (answer, part) →
     PartBrings part table ops (inserts (named_batches first load.batches))
 
+-- A load under a given name of which no batch is new, given a folder's operations: it brings nothing. The folder holds all that it inserts,
+-- and no part is needed.
+abbrev pub NamedLoadIdle : Type 0
+NamedLoadIdle =
+    (load : LoadForm) (first : BatchName) (table : Table) (ops : List Operation) (answer : Imported) (part : Replica) →
+    AreAgreeing ops → part_of_named_load load first (replica_of table ops) ≡ Ok (answer, part) → answer.new ≡ 0 →
+    SameOperations (inserts (named_batches first load.batches) ++ ops) ops
+
 -- deletes by a condition: one for each row that it finds in the folder
 abbrev pub DeletesPartHolds : Type 0
 DeletesPartHolds =
@@ -154,6 +162,7 @@ FolderFollows =
 pub record PartLaws : Type 0 where
   pub load : LoadPartHolds
   pub named : NamedPartBrings
+  pub idle : NamedLoadIdle
   pub deletes : DeletesPartHolds
   pub rows : RowsPartHolds
   pub offers : OffersPartBrings

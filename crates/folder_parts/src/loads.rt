@@ -1,5 +1,5 @@
 //! The parts of loads.
-ghost use Rattle.std.specs.Prelude.{◌≡◌, ◌==◌, not};
+ghost use Rattle.std.specs.Prelude.{◌≡◌, ◌==◌, not, IfOk};
 ghost use Rattle.table_model.specs.Reading.{Reads};
 ghost use Rattle.replica_files.specs.Loads.{importing};
 ghost use Rattle.folder_parts.specs.PartsPut.{PutsPart, empty_replica, part_of_load, part_of_named_load};
@@ -51,7 +51,8 @@ fn load_lacked(
     load: Load,
     first: BatchName,
 ) -> Result<(Imported, Store), Refusal>
-    ensures { Reads (λ made. (made.0, made.1.replica)) result (part_of_named_load load first held.old.replica) }
+    ensures made { Reads (λ made. (made.0, made.1.replica)) result (part_of_named_load load first held.old.replica) }
+    ensures idle { IfOk result (λ made. made.0.new ≡ 0 → held.new.replica ≡ held.old.replica) }
 {
     let (loaded, own) = load_alone(alloc, load, Some(first), &[])?;
     let summary = held.summary(alloc)?;
@@ -76,7 +77,10 @@ pub fn part_of_named_load<W: Write>(
     first: BatchName,
     writer: &mut Counted<W>,
 ) -> Result<Imported, Refusal>
-    ensures { PutsPart (λ done. done) (λ done. not (done.new == 0)) result (W.contents writer.old.0) (W.contents writer.new.0) (part_of_named_load load first held.old.replica) }
+    ensures made { PutsPart (λ done. done) (λ done. not (done.new == 0)) result (W.contents writer.old.0) (W.contents writer.new.0) (part_of_named_load load first held.old.replica) }
+
+    // If no batch is new, the load brings nothing.
+    ensures idle { IfOk result (λ done. done.new ≡ 0 → held.new.replica ≡ held.old.replica) }
 {
     let (done, part) = load_lacked(alloc, held, load, first)?;
     write_part(alloc, &part, done.new != 0, writer)?;
