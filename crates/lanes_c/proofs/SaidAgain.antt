@@ -1,5 +1,5 @@
 -- The number and the place of a fault say its refusal again.
-use Rattle.std.specs.Prelude.{◌≡◌, ◌⊎◌, ℕ, ◌<◌, ◌%◌, ◌==◌, nat_lt, Bool, false, List, [], codes, Option, Some, None}
+use Rattle.std.specs.Prelude.{◌≡◌, ◌⊎◌, ℕ, ◌<◌, ◌%◌, ◌==◌, nat_lt, false, List, [], codes, Option, Some, None}
 use Rattle.std.proofs.Common.{refl, sym, ap, ◌∙◌, inl, inr, arith}
 use Rattle.std.proofs.lemmas.Bool.Decides.{nat_tests}
 use Rattle.std.proofs.Math.Nat.{mod-eq_of_lt}
@@ -12,7 +12,7 @@ use Rattle.refusal_sentences.specs.declared.command_refusal.CommandRefusal.TheVa
 use Rattle.lanes_c.specs.declared.fault.Place.{Place}
 use Rattle.lanes_c.specs.declared.fault.Fault.{Fault}
 use Rattle.lanes_c.specs.declared.fault.Fault.TheVariants as faults
-use Rattle.lanes_c.specs.Faults.{pair, nowhere, place_of, number_of_fault, place_of_fault}
+use Rattle.lanes_c.specs.Faults.{pair, place_of, number_of_fault, place_of_fault}
 use Rattle.lanes_c.specs.Names.{batch_of, refusal_at, own_refusal_at, or_own, command_refusal_at, refusal_of_fault, IsShort, HasShort, HasOne, IsTold, SaysAgain, IsSentenceOf}
 
 -- numbers of 32 bits are as they were
@@ -163,4 +163,4 @@ one_is_there : (said : Option CommandRefusal) (refusal : CommandRefusal) → sai
 one_is_there said refusal some none = cc
 
 pub other_said : (number : ℕ) (said : Option CommandRefusal) (refusal : CommandRefusal) (text : List ℕ) → ((number ≡ 39) → ⊥) → said ≡ Some refusal → ((number ≡ 0) ⊎ (43 < number) → said ≡ None) → IsSentenceOf number text
-other_said number said refusal text open is none = ((λ closed. absurd (open closed)), (λ no. absurd (one_is_there said refusal is (none no))))
+other_said number said refusal text opened is none = ((λ closed. absurd (opened closed)), (λ no. absurd (one_is_there said refusal is (none no))))
