@@ -15,3 +15,4 @@ pub mod HeldChanges
 pub mod Expectations
 pub mod InputFaults
 pub mod InputLoads
+pub mod SaidAgain

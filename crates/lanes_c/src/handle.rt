@@ -21,6 +21,13 @@ pub struct Table {
     pub ghost replica: { Maybe Replica } by { coded_option coded_replica },
 }
 
+/// The value itself, if its type is `Send`: a call is refused by the check if no proof of that is found.
+fn sent<T: Send>(value: T) -> T
+    ensures { result ≡ value }
+{
+    value
+}
+
 impl Model for Table {
     ghost also_owns = { λ t. table_owns t.at t.replica };
 }
@@ -56,11 +63,11 @@ impl Table {
         }
     }
 
-    /// The open handle of a box.
+    /// The open handle of a box. Both may go to another thread: [`sent`] has that checked.
     pub fn of_box(shared: Box<Shared>) -> Table
         ensures { result.replica ≡ Open shared.value.store.value.replica }
     {
-        Table::of(Loose::of(shared))
+        sent(Table::of(Loose::of(sent(shared))))
     }
 
     /// The box of a handle; none if the handle is closed.

@@ -1,7 +1,7 @@
 //! What a number and a place say: a refusal's name and its sentence; and the library's version.
-ghost use Rattle.std.specs.Prelude.{◌≡◌, ◌⊎◌, ◌<◌, IfSome, IfNone, codes, ⊤};
+ghost use Rattle.std.specs.Prelude.{◌≡◌, ◌⊎◌, ◌<◌, ◌%◌, [], IfOk, IfSome, IfNone, codes};
 ghost use Rattle.table_model.specs.RefusalText.{number_of};
-ghost use Rattle.lanes_c.specs.Names.{IsNameOf, own_name};
+ghost use Rattle.lanes_c.specs.Names.{IsNameOf, IsSentenceOf, SaysAgain, batch_of, command_refusal_at, own_name, own_refusal_at, refusal_at, refusal_of_bytes, refusal_of_calls, refusal_of_texts};
 ghost use Rattle.lanes_c.specs.Rooms.{IsFilled};
 
 use crate::fault::{NOT_OPEN, Place};
@@ -13,13 +13,20 @@ use table_model::{BatchName, Number, Origin, Refusal};
 /// The library's version, which is the program's.
 const VERSION: &str = "0.6.1";
 
+/// The sentence of a closed handle.
+const CLOSED: &str = "no file is open in this handle";
+
 /// A number's low 32 bits.
-fn low(number: u64) -> u32 {
+fn low(number: u64) -> u32
+    ensures { result ≡ number % 4294967296 }
+{
     (number % 4_294_967_296) as u32
 }
 
 /// The batch that a place is.
-fn batch_at(place: Place) -> BatchName {
+fn batch_at(place: Place) -> BatchName
+    ensures { result ≡ batch_of place }
+{
     BatchName {
         origin: Origin(low(place.first)),
         number: Number(low(place.second)),
@@ -30,6 +37,7 @@ fn batch_at(place: Place) -> BatchName {
 fn refusal_of_calls(number: u8, place: Place) -> Option<Refusal>
     ensures some { IfSome result (λ refusal. number_of refusal ≡ number) }
     ensures none { IfNone result ((number ≡ 0) ⊎ (12 < number)) }
+    ensures same { result ≡ refusal_of_calls number place }
 {
     match number {
         1 => Some(Refusal::Memory),
@@ -51,11 +59,13 @@ fn refusal_of_calls(number: u8, place: Place) -> Option<Refusal>
     }
 }
 
-/// The refusal of a number from 13 to 25, at a byte.
-fn refusal_of_bytes(number: u8, at: u64) -> Option<Refusal>
+/// The refusal of a number from 13 to 25, at a place, which is a byte.
+fn refusal_of_bytes(number: u8, place: Place) -> Option<Refusal>
     ensures some { IfSome result (λ refusal. number_of refusal ≡ number) }
     ensures none { IfNone result ((number < 13) ⊎ (25 < number)) }
+    ensures same { result ≡ refusal_of_bytes number place }
 {
+    let at = place.first;
     match number {
         13 => Some(Refusal::Truncated(at)),
         14 => Some(Refusal::BadMagic),
@@ -74,11 +84,13 @@ fn refusal_of_bytes(number: u8, at: u64) -> Option<Refusal>
     }
 }
 
-/// The refusal of a number from 26 to 37, at a byte.
-fn refusal_of_texts(number: u8, at: u64) -> Option<Refusal>
+/// The refusal of a number from 26 to 37, at a place, which is a byte.
+fn refusal_of_texts(number: u8, place: Place) -> Option<Refusal>
     ensures some { IfSome result (λ refusal. number_of refusal ≡ number) }
     ensures none { IfNone result ((number < 26) ⊎ (37 < number)) }
+    ensures same { result ≡ refusal_of_texts number place }
 {
+    let at = place.first;
     match number {
         26 => Some(Refusal::Syntax(at)),
         27 => Some(Refusal::NoSuchTable),
@@ -100,13 +112,14 @@ fn refusal_of_texts(number: u8, at: u64) -> Option<Refusal>
 fn refusal_of(number: u8, place: Place) -> Option<Refusal>
     ensures some { IfSome result (λ refusal. number_of refusal ≡ number) }
     ensures none { IfNone result ((number ≡ 0) ⊎ (37 < number)) }
+    ensures same { result ≡ refusal_at number place }
 {
     if number < 13 {
         refusal_of_calls(number, place)
     } else if number < 26 {
-        refusal_of_bytes(number, place.first)
+        refusal_of_bytes(number, place)
     } else {
-        refusal_of_texts(number, place.first)
+        refusal_of_texts(number, place)
     }
 }
 
@@ -146,7 +159,9 @@ pub extern "C" fn lanes_refusal(number: u8, room: &mut [u8]) -> usize
 }
 
 /// The refusal of a number that is not one of the table's own calls, at a place.
-fn own_refusal(number: u8, place: Place) -> Option<CommandRefusal> {
+fn own_refusal(number: u8, place: Place) -> Option<CommandRefusal>
+    ensures { result ≡ own_refusal_at number place }
+{
     match number {
         38 => Some(CommandRefusal::BadCsv {
             line: place.first,
@@ -160,28 +175,49 @@ fn own_refusal(number: u8, place: Place) -> Option<CommandRefusal> {
     }
 }
 
+/// The refusal that a number and a place are: that of the fault of which they were told. None if the number has none, and of a
+/// closed handle.
+fn command_refusal(number: u8, place: Place) -> Option<CommandRefusal>
+    ensures same { result ≡ command_refusal_at number place }
+    ensures again { SaysAgain number place result }
+    ensures none { (number ≡ 0) ⊎ (43 < number) → result ≡ None }
+{
+    match refusal_of(number, place) {
+        Some(refusal) => Some(CommandRefusal::Named(refusal)),
+        None => own_refusal(number, place),
+    }
+}
+
+/// What is known of a refusal in addition: the line of one that is too long.
+fn known_of<'a>(refusal: CommandRefusal, place: Place) -> Knowledge<'a> {
+    if refusal == CommandRefusal::Named(Refusal::LineTooLong) && place.first != 0 {
+        Knowledge::Line(place.first)
+    } else {
+        Knowledge::Nothing
+    }
+}
+
 /// The sentence of a refusal at a place; none if the number has none.
-fn sentence_of(alloc: Global, number: u8, place: Place) -> Result<String, AllocError> {
+fn sentence_of(alloc: Global, number: u8, place: Place) -> Result<String, AllocError>
+    ensures { IfOk result (λ text. IsSentenceOf number text.bytes.items) }
+{
     if number == NOT_OPEN {
-        return format!(in alloc; "{}", "no file is open in this handle");
+        return String::from_str(alloc, CLOSED);
     }
-    if let Some(refusal) = own_refusal(number, place) {
-        return format!(in alloc; "{}", Sentence::new(refusal));
-    }
-    let Some(refusal) = refusal_of(number, place) else {
+    let Some(refusal) = command_refusal(number, place) else {
         return Ok(String::new(alloc));
     };
-    let mut sentence = Sentence::new(CommandRefusal::Named(refusal));
-    if refusal == Refusal::LineTooLong && place.first != 0 {
-        sentence.knowledge = Knowledge::Line(place.first);
-    }
+    let sentence = Sentence {
+        knowledge: known_of(refusal, place),
+        ..Sentence::new(refusal)
+    };
     format!(in alloc; "{sentence}")
 }
 
 /// Gives the sentence of a refusal's number and place, and its length; 0 if the number has none, or memory runs out.
 #[unsafe(no_mangle)]
 pub extern "C" fn lanes_sentence(alloc: Global, number: u8, place: &Place, room: &mut [u8]) -> usize
-    ensures { IsFilled (λ sentence. ⊤) result room.old room.new }
+    ensures { IsFilled (λ sentence. IsSentenceOf number sentence) result room.old room.new }
 {
     match sentence_of(alloc, number, *place) {
         Ok(sentence) => {
