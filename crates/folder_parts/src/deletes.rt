@@ -4,23 +4,11 @@ ghost use Rattle.table_model.specs.Reading.{Reads};
 ghost use Rattle.folder_parts.specs.PartsPut.{PutsPart, part_of_deletes, part_of_rows};
 
 use crate::writing::write_part;
-use replica_files::Deleted;
+use replica_files::{Deleted, bring_deletes};
 use replica_store::Store;
 use std::alloc::Global;
 use std::io::Write;
-use store_view::names_where;
 use table_model::{Counted, Origin, Refusal, RowName, Schema};
-
-/// The store of the deletions of the rows at which a condition is true.
-fn found_rows(alloc: Global, held: &Store, condition: &str) -> Result<(Deleted, Store), Refusal>
-    ensures { Reads (λ made. (made.0.rows, made.1.replica)) result (part_of_deletes condition.now held.now.replica) }
-{
-    let names = names_where(alloc, held, condition)?;
-    let mut part = Store::new(alloc, held.schema(), Origin(1))?;
-    part.delete_all(alloc, names.as_slice())?;
-    let rows = names.len() as u64;
-    Ok((Deleted { rows }, part))
-}
 
 /// Writes the part of a delete by a condition: the deletions of the rows that aren't deleted in the store of all parts and at which the
 /// condition is true, and no batch. If there is no such row, nothing is written, and there is nothing to put.
@@ -35,7 +23,7 @@ pub fn part_of_deletes<W: Write>(
 ) -> Result<Deleted, Refusal>
     ensures { PutsPart (λ done. done.rows) (λ done. not (done.rows == 0)) result (W.contents writer.old.0) (W.contents writer.new.0) (part_of_deletes condition.now held.now.replica) }
 {
-    let (done, part) = found_rows(alloc, held, condition)?;
+    let (done, part) = bring_deletes(alloc, held, condition)?;
     write_part(alloc, &part, done.rows != 0, writer)?;
     Ok(done)
 }

@@ -1,7 +1,6 @@
 //! A replica as a folder of parts: their names, their join, and the part that each command puts.
 #![tactic(auto)]
 
-mod beside;
 mod deletes;
 mod fault;
 mod forgetting;

@@ -4,9 +4,8 @@ ghost use Rattle.table_model.specs.Reading.{Reads};
 ghost use Rattle.replica_files.specs.Loads.{importing};
 ghost use Rattle.folder_parts.specs.PartsPut.{PutsPart, empty_replica, part_of_load, part_of_named_load};
 
-use crate::beside::lacked;
 use crate::writing::write_part;
-use replica_files::{Imported, Load, import_load};
+use replica_files::{Imported, Load, bring_load, import_load};
 use replica_store::Store;
 use std::alloc::Global;
 use std::io::Write;
@@ -44,41 +43,22 @@ pub fn part_of_load<W: Write>(
     Ok(done)
 }
 
-/// The store of a load's batches whose names a folder's store does not have, which has all of them afterwards.
-fn load_lacked(
-    alloc: Global,
-    held: &mut Store,
-    load: Load,
-    first: BatchName,
-) -> Result<(Imported, Store), Refusal>
-    ensures { Reads (λ made. (made.0, made.1.replica)) result (part_of_named_load load first held.old.replica) }
-{
-    let (loaded, own) = load_alone(alloc, load, Some(first), &[])?;
-    let summary = held.summary(alloc)?;
-    let before = held.batches();
-    held.merge(alloc, &own)?;
-    let new = held.batches().saturating_sub(before) as u32;
-    let part = lacked(alloc, &own, &summary)?;
-    Ok((Imported { new, ..loaded }, part))
-}
-
 /// Writes the part of a load under consecutive names from a given one on: the batches whose names no part of the folder holds. If
-/// `new` is 0 nothing is written, and there is nothing to put. The store has what all parts hold, and has the load's batches
-/// afterwards.
+/// `new` is 0 nothing is written, and there is nothing to put. The store has what all parts hold; nothing of it is copied.
 ///
 /// Refused are, in this order, `BadName` and `NumbersSpent` of the names, unless there is no batch; `SchemaDiffers`; `Conflict` with
 /// the least name that is held with other rows; `Full`; `Memory`, which may come in the place of any of them; `WriteFault`. Only with
 /// the last anything is written: a front.
 pub fn part_of_named_load<W: Write>(
     alloc: Global,
-    held: &mut Store,
+    held: &Store,
     load: Load,
     first: BatchName,
     writer: &mut Counted<W>,
 ) -> Result<Imported, Refusal>
-    ensures { PutsPart (λ done. done) (λ done. not (done.new == 0)) result (W.contents writer.old.0) (W.contents writer.new.0) (part_of_named_load load first held.old.replica) }
+    ensures { PutsPart (λ done. done) (λ done. not (done.new == 0)) result (W.contents writer.old.0) (W.contents writer.new.0) (part_of_named_load load first held.now.replica) }
 {
-    let (done, part) = load_lacked(alloc, held, load, first)?;
+    let (done, part) = bring_load(alloc, held, load, Some(first), &[])?;
     write_part(alloc, &part, done.new != 0, writer)?;
     Ok(done)
 }

@@ -7,7 +7,7 @@ use crate::changing::{
 use crate::failure::Failure;
 use crate::folders::{Opened, open_folder, read_heads};
 use crate::judged_puts::put_judged;
-use crate::offer_tables::first_other;
+use crate::offer_tables::OfferTables;
 use crate::progress::Progress;
 use crate::putting::{keep_all, make_folder, put_part, say};
 use command_line::{CsvForm, Source};
@@ -149,10 +149,10 @@ fn import_named<
     form: CsvForm<'_>,
     is_quiet: bool,
 ) -> Result<(), Failure> {
-    let mut opened: Opened<Store> = open_folder(rt, progress, folder)?;
+    let opened: Opened<Store> = open_folder(rt, progress, folder)?;
     let load = load_of(rt, progress, csvs, opened.held.schema(), form)?;
     let mut writer = Counted::new(Vec::new(rt.alloc()));
-    match part_of_named_load(rt.alloc(), &mut opened.held, load, first, &mut writer) {
+    match part_of_named_load(rt.alloc(), &opened.held, load, first, &mut writer) {
         Ok(done) if done.new == 0 => {
             let left = keep_all(rt, folder, &opened.parts);
             say(rt, folder, Answer::Imported(done), left, is_quiet)
@@ -277,11 +277,11 @@ pub fn apply<
     sources: &[Source<'_>],
     is_quiet: bool,
 ) -> Result<(), Failure> {
-    let mut opened: Opened<Store> = open_folder(rt, progress, folder)?;
+    let opened: Opened<Store> = open_folder(rt, progress, folder)?;
     let offers = read_offers(rt, progress, sources)?;
-    let offers = offers.as_slice();
+    let tables = OfferTables::of(rt.alloc(), offers.as_slice())?;
     let mut writer = Counted::new(Vec::new(rt.alloc()));
-    match part_of_offers(rt.alloc(), &mut opened.held, offers, &mut writer) {
+    match part_of_offers(rt.alloc(), &opened.held, offers, &mut writer) {
         Ok(done) if !done.is_changed => {
             let left = keep_all(rt, folder, &opened.parts);
             say(rt, folder, Answer::Applied(done), left, is_quiet)
@@ -299,7 +299,7 @@ pub fn apply<
         }
         Err(Refusal::SchemaDiffers) => {
             let schema = opened.held.schema();
-            let found = first_other(offers, schema);
+            let found = tables.other_than(schema);
             Err(of_other_table(rt, folder, schema, found, sources))
         }
         Err(refusal) => Err(refused_alone(rt, folder, in_memory(refusal))),

@@ -41,7 +41,7 @@ impl OfferTables {
 }
 
 /// The table of the first of these offers that is of another table than this one, if there is one, with its index.
-pub fn first_other<'a>(offers: &'a [Offer], wanted: &Schema) -> Option<(usize, &'a Schema)> {
+fn first_other<'a>(offers: &'a [Offer], wanted: &Schema) -> Option<(usize, &'a Schema)> {
     for (index, offer) in offers.iter().enumerate() {
         if !offer.schema().same(wanted) {
             return Some((index, offer.schema()));

@@ -1,5 +1,6 @@
 pub mod AskedTexts
 pub mod BatchCounting
+pub mod CommandsBring
 pub mod CommandSteps
 pub mod CountedBatches
 pub mod CsvLoading
@@ -25,3 +26,4 @@ pub mod FiguresAsked
 pub mod VectorParts
 pub mod ColumnLines
 pub mod ReportTexts
+pub mod RefusedTold

@@ -2,6 +2,7 @@ pub mod Asking
 pub mod ColumnFigures
 pub mod ColumnTexts
 pub mod Commands
+pub mod Brings
 pub mod Counts
 pub mod CsvLoads
 pub mod DumpColumnLaws
@@ -13,5 +14,6 @@ pub mod Forgetting
 pub mod Loads
 pub mod DumpLaws
 pub mod QueryLines
+pub mod RefusedLines
 pub mod Refusals
 pub mod Reports

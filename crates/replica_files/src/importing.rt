@@ -28,7 +28,7 @@ pub struct Imported {
 }
 
 /// The first name of a number of batches, if there is a batch.
-fn name_of_some(count: usize, name: BatchName) -> Option<BatchName>
+pub(crate) fn name_of_some(count: usize, name: BatchName) -> Option<BatchName>
     ensures { result ≡ name_of_some count name }
 {
     if count == 0 { None } else { Some(name) }

@@ -3,7 +3,7 @@ use std::test::Fail;
 use test_support::agree;
 use transpose_order::{Mask, place, position};
 
-/// Finds where row 65 is at a lane width of 32 bits, and counts rows of a mask.
+/// Finds the place of row 65 at a lane width of 32 bits, and counts rows of a mask.
 fn place_a_row() -> Result<(), Fail> {
     agree(place(32, 65), (1, 1))?;
     agree(position(65), 129)?;
