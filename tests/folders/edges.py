@@ -193,6 +193,44 @@ def of_three_parts_the_two_that_disagree_are_named(room):
             os.remove(room.path("d/" + name_of(data[name])))
 
 
+def of_parts_of_many_batches_the_one_that_has_the_name_is_named(room):
+    """Whatever the codings, types, nulls and lengths of what lies before the name in its part."""
+    types = ("A", "TINYINT", "B", "SMALLINT", "C", "INTEGER", "D", "BIGINT")
+
+    def made(name, seed, loads):
+        room.ok("create", name, "T", *types)
+        for batch, rows in loads:
+            room.ok("import", "--no-header", "--batch", batch, name, "-", given=mixed_rows(rows, seed))
+        return room.get(name)
+
+    room.ok("create", "d/", "T", *types)
+    one = made("t", 1, (("1.1", 70_000), ("1.7", 1), ("2.1", 1024), ("3.4", 1025), ("9.1", 3)))
+    other = made("u", 2, (("1.5", 2049), ("4.1", 66_000), ("8.1", 5)))
+    for turn, batch in enumerate(("1.1", "1.2", "1.7", "2.1", "3.4", "9.1", "1.5", "4.2", "8.1")):
+        clash = made(f"v{turn}", 3, ((batch, 1000),))
+        named = one if batch in ("1.1", "1.2", "1.7", "2.1", "3.4", "9.1") else other
+        for data in (one, other, clash):
+            room.put("d/" + name_of(data), data)
+        first, second = sorted((name_of(named), name_of(clash)))
+        room.refused("check", "d", line=f"refused Conflict {batch}", sentence=f"d/{second}: this and d/{first} have a batch {batch}, with different rows")
+        os.remove(room.path("d/" + name_of(clash)))
+
+
+def mixed_rows(count, seed):
+    """Rows whose columns change their pattern, and so their coding, every 1,000 rows."""
+    patterns = (
+        lambda row: seed,
+        lambda row: row % 1000 // 10,
+        lambda row: row * row * 7919 % 101 + seed,
+        lambda row: "" if row % 3 == 0 else (5, 120)[row // 7 % 2],
+        lambda row: row // 97 % 50,
+    )
+    lines = []
+    for row in range(count):
+        lines.append(",".join(str(patterns[(row // 1000 + column) % len(patterns)](row)) for column in range(4)))
+    return ("\n".join(lines) + "\n").encode()
+
+
 def a_folder_that_has_a_parts_name_is_none(room):
     make_folder(room, loads=2)
     os.mkdir(room.path("d/" + "0" * 32 + ".lanes"))
@@ -212,5 +250,6 @@ TESTS = [
     a_part_whose_read_fails_is_a_failed_read,
     many_inputs_and_parts_need_few_open_files,
     of_three_parts_the_two_that_disagree_are_named,
+    of_parts_of_many_batches_the_one_that_has_the_name_is_named,
     a_folder_that_has_a_parts_name_is_none,
 ]

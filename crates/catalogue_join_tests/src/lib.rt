@@ -2,6 +2,8 @@
 #![tactic(auto)]
 
 #[cfg(test)]
+mod readme_example;
+#[cfg(test)]
 mod refused_tests;
 #[cfg(test)]
 mod row_list_tests;

@@ -31,7 +31,7 @@ batch_is_lawful table front =
     before_is_lawful name rest (batch_name_is_lawful (map name_of front)) (λ n valid. before_is_lawful row_count (batch_columns table) row_count_is_lawful (λ rows v. batch_columns_are_lawful table rows))
 
 -- a count, and so many items
-counted_is_lawful : {A : Type 0} (count : Format ℕ) (item : List A → Format A) → IsLawful count → ((front : List A) → IsLawful (item front))
+pub counted_is_lawful : {A : Type 0} (count : Format ℕ) (item : List A → Format A) → IsLawful count → ((front : List A) → IsLawful (item front))
     → IsLawful (seen (before count (λ n. all n item)) (λ p. p.1) (λ (found : List A). Some (length found, found)))
 counted_is_lawful {A = A} count item law laws =
     let rest : ℕ → Format (List A) = λ n. all n item in

@@ -167,7 +167,7 @@ first_range : (rs : List RowRange) → StartsRanges [] rs
 first_range [] = tt
 first_range (r ∷ rs) = refl
 
-container_valid : (t : Table) (es : List Held) (rs : List RowRange) → IsTable t → AllByRecursion (HasBatchBytes t) es → length es ≤ batch_limit → is_sorted name_cmp es ≡ true → AreMaximal rs → length rs < 18446744073709551616
+pub container_valid : (t : Table) (es : List Held) (rs : List RowRange) → IsTable t → AllByRecursion (HasBatchBytes t) es → length es ≤ batch_limit → is_sorted name_cmp es ≡ true → AreMaximal rs → length rs < 18446744073709551616
     → container.valid (t, (map entry_of es, map deleted_of rs)) ≡ true
 unfolding container batches name_count ranges
 container_valid t es rs table bytes limit sorted maximal few =
@@ -214,7 +214,7 @@ sorted_kept : (t : Table) (es : List (BatchName × Batch)) → is_sorted name_cm
 sorted_kept t [] = refl
 sorted_kept t (e ∷ es) = (λ i. below_kept t e.0 es i && sorted_kept t es i)
 
-file_valid : (t : Table) (state : State) (h : HasFile t state) → container.valid (t, (map entry_of (map (canonical_entry t) (finite.entries state.batches)), map deleted_of (h.ranges))) ≡ true
+pub file_valid : (t : Table) (state : State) (h : HasFile t state) → container.valid (t, (map entry_of (map (canonical_entry t) (finite.entries state.batches)), map deleted_of (h.ranges))) ≡ true
 file_valid t state h =
     let es = finite.entries state.batches in
     let within = h.within in

@@ -72,11 +72,11 @@ versions_are_written = record {
 
 -- ---- the bytes of version 1
 
-same_schema : schema 1 ≡ schema_1
+pub same_schema : schema 1 ≡ schema_1
 unfolding schema column column_type schema_1 column_1 column_type_1
 same_schema = refl
 
-head_stays : (magic : List ℕ) (t : Table) → has_tiny t ≡ false → (head magic).spell t ≡ (head_1 magic).spell t
+pub head_stays : (magic : List ℕ) (t : Table) → has_tiny t ≡ false → (head magic).spell t ≡ (head_1 magic).spell t
 unfolding head head_1 version version_1
 head_stays magic t none =
     let first : version_of t ≡ 1 = ap (λ (b : Bool). cond b 2 1) none in
@@ -87,7 +87,7 @@ batches_stay : (t : Table) (es : List Entry) → (batches t).spell es ≡ (batch
 unfolding batches batches_1 name_count name_count_1
 batches_stay t es = refl
 
-file_stays : (t : Table) (entries : List Held) (deleted : set.FinSet row_name_cmp) → has_tiny t ≡ false → file_of t entries deleted ≡ file_of_1 t entries deleted
+pub file_stays : (t : Table) (entries : List Held) (deleted : set.FinSet row_name_cmp) → has_tiny t ≡ false → file_of t entries deleted ≡ file_of_1 t entries deleted
 unfolding file_of file_of_1 container container_1
 file_stays t entries deleted none =
     let es = map entry_of entries in
@@ -334,7 +334,7 @@ offer_is_wide bytes o e =
     subst (λ (x : OfferForm). has_tiny x.schema ≡ false) (ok_is (offer_held a.0) o a.2) (container_is_wide a.0 found)
 
 -- so it is judged by the same bytes
-judged_alike : (bytes : List ℕ) (o : OfferForm) → has_tiny o.schema ≡ false → judged bytes o ≡ judged_1 bytes o
+pub judged_alike : (bytes : List ℕ) (o : OfferForm) → has_tiny o.schema ≡ false → judged bytes o ≡ judged_1 bytes o
 judged_alike bytes o none = ap (λ (file : List ℕ). cond (same_text bytes file) (Ok o) (Err (NotCanonical (first_difference bytes file)))) (first_files_stay o.schema o.state none)
 
 pub first_files_hold : FirstFilesHold

@@ -25,3 +25,4 @@ pub mod Differences
 pub mod FirstOthers
 pub mod BatchDifferences
 pub mod Judgements
+pub mod FirstFiles

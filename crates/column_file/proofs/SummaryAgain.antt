@@ -17,10 +17,11 @@ use Rattle.catalogue_join.specs.Run.{names_listed, names_in, run_shape}
 use Rattle.catalogue_join.proofs.NameSets.{contains-names_in, is_bounded, same_name, same_name_parts, spot}
 use Rattle.segment_core.specs.Format.{number, valid_all, read_whole}
 use Rattle.segment_core.proofs.NumberLaws.{number_is_valid}
+use Rattle.replica_store.specs.Exchange.{SummaryForm}
 use Rattle.replica_store.specs.Replica.{batch_limit}
 use Rattle.column_file.specs.Ordered.{in_order}
 use Rattle.column_file.specs.SummaryBytes.{head, is_after, batch_name, name_count, names, summary, summary_bytes, summary_read}
-use Rattle.column_file.specs.Files.{IsNumbered, SummariesAreReadAgain}
+use Rattle.column_file.specs.Files.{IsNumbered, HasSummaryBytes, SummariesAreReadAgain}
 use Rattle.column_file.proofs.SummaryLaws.{summary_is_lawful}
 use Rattle.column_file.proofs.OrderedLists.{listed_names, length-in_order, members-in_order}
 use Rattle.column_file.proofs.OfferReading.{after_last}
@@ -66,16 +67,22 @@ summary_valid t xs table limit sorted written =
     and_from ((head (codes "FLSM")).valid t) (((number 4).valid n && leb n batch_limit) && (eqb n n && valid_all batch_name [] xs)) (head_valid (codes "FLSM") t refl table)
     (and_from ((number 4).valid n && leb n batch_limit) (eqb n n && valid_all batch_name [] xs) count listed)
 
-pub summaries_are_read_again : SummariesAreReadAgain
-summaries_are_read_again s h =
+-- a summary that has bytes
+pub has_summary_valid : (s : SummaryForm) → HasSummaryBytes s → summary.valid (s.schema, in_order name_cmp s.names) ≡ true
+has_summary_valid s h =
     let xs = in_order name_cmp s.names in
     let listable = h.listable in
     let listed = listed_names s.names in
     let limit : length xs ≤ batch_limit = (let l = listable.limit in omega (arith, length-in_order s.names)) in
     let has : (q : BatchName) → list_any (same_name q) xs ≡ true → set.contains s.names q ≡ true = λ q e. sym (members-in_order name_cmp names_total s.names q) ∙ e in
     let written = each_among IsWritten xs (λ q e. (h.numbered q (has q e), listable.proper q (has q e))) in
-    let read : read_whole summary (summary_bytes s) ≡ Ok (s.schema, xs) = whole_again summary summary_is_lawful (s.schema, xs) (summary_valid s.schema xs h.schema limit listed.ascending written) in
-    let same = listed.same in
+    summary_valid s.schema xs h.schema limit listed.ascending written
+
+pub summaries_are_read_again : SummariesAreReadAgain
+summaries_are_read_again s h =
+    let xs = in_order name_cmp s.names in
+    let same = (listed_names s.names).same in
+    let read : read_whole summary (summary_bytes s) ≡ Ok (s.schema, xs) = whole_again summary summary_is_lawful (s.schema, xs) (has_summary_valid s h) in
     let made : summary_read (summary_bytes s) ≡ Ok (record { schema = s.schema; names = set.from_list {R = name_cmp} xs }) = rw read refl in
     made ∙ (λ i. Ok (record { schema = s.schema; names = same i }))
 

@@ -1,10 +1,10 @@
 -- The formats of version 1 as they were while it was the only one, and what version 2 keeps of them.
-use Rattle.std.specs.Prelude.{◌≡◌, ℕ, nat_le, Bool, false, cond, ◌==◌, List, length, take, drop, codes, Option, Some, None, Result, Ok, Err, map as each}
+use Rattle.std.specs.Prelude.{◌≡◌, ℕ, ◌≤◌, nat_le, Bool, false, cond, ◌==◌, List, length, take, drop, codes, Option, Some, None, Result, Ok, Err, map as each}
 use Rattle.std.specs.FinMap as map
 use Rattle.std.specs.FinSet as set
 use Rattle.byteorder.specs.Endian.{little_bytes}
 use Rattle.table_model.specs.Identifier.{same_text}
-use Rattle.table_model.specs.Name.{row_name_cmp}
+use Rattle.table_model.specs.Name.{name_cmp, row_name_cmp}
 use Rattle.table_model.specs.Reading.{◌>>=◌}
 use Rattle.table_model.specs.State.{State}
 use Rattle.table_model.specs.Table.{Table, ColumnShape}
@@ -21,7 +21,8 @@ use Rattle.column_file.specs.SchemaBytes.{name, tag_of, first_tag, type_tagged, 
 use Rattle.column_file.specs.SummaryBytes.{batch_name, summary_listed, summary_bytes, summary_read}
 use Rattle.column_file.specs.ContainerBytes.{Entry, entry_of, batch, Deleted, deleted_of, ranges}
 use Rattle.column_file.specs.Input.{IsUnread}
-use Rattle.column_file.specs.Files.{ranges_of, canonical_entry, first_difference, offer_held, offer_bytes, offer_read, canonical_file, canonical_read, opened_from}
+use Rattle.column_file.specs.Ordered.{in_order}
+use Rattle.column_file.specs.Files.{ranges_of, canonical_entry, first_difference, offer_held, offer_bytes, offer_read, canonical_file, canonical_read, opened_from, HasFile, HasOfferBytes, HasSummaryBytes, AreCanonicalOf}
 
 -- how many batches a container had at most, and names a summary
 abbrev pub batch_limit_1 : ℕ
@@ -145,3 +146,49 @@ FirstOffersAreRead = (bytes : List ℕ) (o : OfferForm) → offer_read_1 bytes �
 -- a summary that version 1 read is read as the same summary
 abbrev pub FirstSummariesAreRead : Type 0
 FirstSummariesAreRead = (bytes : List ℕ) (s : SummaryForm) → summary_read_1 bytes ≡ Ok s → summary_read bytes ≡ Ok s
+
+-- ---- version 1 accepts what it wrote
+
+-- the bytes of an offer in version 1: its batches with their present codings
+abbrev pub offer_bytes_1 : OfferForm → List ℕ
+offer_bytes_1 o = file_of_1 o.schema (map.entries o.segments) o.state.deleted
+
+-- the bytes of a summary in version 1: its names in ascending order
+abbrev pub summary_bytes_1 : SummaryForm → List ℕ
+summary_bytes_1 s = summary_1.spell (s.schema, in_order name_cmp s.names)
+
+-- A table's state that version 1 had a file for: it has one in this version, no column has 8 bits, and there are not more batches than version 1
+-- had at most.
+pub record HasFirstFile (table : Table) (state : State) : Type 0 where
+  pub file : HasFile table state
+  pub wide : has_tiny table ≡ false
+  pub few : map.len state.batches ≤ batch_limit_1
+
+-- an offer that had bytes in version 1
+pub record HasFirstOffer (o : OfferForm) : Type 0 where
+  pub bytes : HasOfferBytes o
+  pub wide : has_tiny o.schema ≡ false
+  pub few : map.len o.segments ≤ batch_limit_1
+
+-- a summary that had bytes in version 1
+pub record HasFirstSummary (s : SummaryForm) : Type 0 where
+  pub bytes : HasSummaryBytes s
+  pub wide : has_tiny s.schema ≡ false
+  pub few : set.len s.names ≤ batch_limit_1
+
+-- what version 1 opened a file to: the table and the state that it was exported from, in canonical segments
+abbrev pub OpensFirst : List ℕ → Table → State → Type 0
+OpensFirst bytes table state =
+    (o : OfferForm) × (canonical_read_1 bytes ≡ Ok o) × (o.schema ≡ table) × (o.state ≡ state) × AreCanonicalOf table state.batches o.segments
+
+-- version 1 accepted its own files: what it wrote for a table and a state it opened to these
+abbrev pub FirstFilesComeBack : Type 0
+FirstFilesComeBack = (table : Table) (state : State) → HasFirstFile table state → OpensFirst (canonical_file_1 table state) table state
+
+-- so it read its own offers, codings included
+abbrev pub FirstOffersComeBack : Type 0
+FirstOffersComeBack = (o : OfferForm) → HasFirstOffer o → offer_read_1 (offer_bytes_1 o) ≡ Ok o
+
+-- and its own summaries
+abbrev pub FirstSummariesComeBack : Type 0
+FirstSummariesComeBack = (s : SummaryForm) → HasFirstSummary s → summary_read_1 (summary_bytes_1 s) ≡ Ok s

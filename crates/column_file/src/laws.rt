@@ -1,7 +1,7 @@
 //! The laws of the formats of files and messages.
 ghost use Rattle.column_file.specs.ContainerBytes.{ContainersComeBack};
 ghost use Rattle.column_file.specs.Files.{FilesOpen, FilesOpenToOne, OffersAreReadAgain, SameFileSameState, SummariesAreReadAgain};
-ghost use Rattle.column_file.specs.FirstVersion.{VersionsAreWritten, FirstFilesStay, FirstFilesHold, FirstFilesOpen, FirstOffersAreRead, FirstSummariesAreRead};
+ghost use Rattle.column_file.specs.FirstVersion.{VersionsAreWritten, FirstFilesStay, FirstFilesHold, FirstFilesOpen, FirstOffersAreRead, FirstSummariesAreRead, FirstFilesComeBack, FirstOffersComeBack, FirstSummariesComeBack};
 ghost use Rattle.column_file.specs.SchemaBytes.{SchemasComeBack};
 ghost use Rattle.column_file.specs.SummaryBytes.{SummariesComeBack};
 
@@ -46,4 +46,13 @@ pub fn first_version_is_kept()
     ensures opened { FirstFilesOpen }
     ensures offers { FirstOffersAreRead }
     ensures summaries { FirstSummariesAreRead }
+{}
+
+/// The law that version 1 accepted what it wrote. The file that it wrote for a state of a table without a column of 8 bits, with
+/// at most 65,536 batches, it opened to that table and state. The offers and the summaries that it wrote it read as the same. So
+/// there are files, offers and summaries of which [`first_version_is_kept`] speaks.
+pub fn first_version_accepts_its_own()
+    ensures files { FirstFilesComeBack }
+    ensures offers { FirstOffersComeBack }
+    ensures summaries { FirstSummariesComeBack }
 {}

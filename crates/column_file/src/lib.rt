@@ -21,8 +21,8 @@ pub use canonical_writing::export;
 pub use container_reading::CONTAINER;
 pub use input::read_input;
 pub use laws::{
-    containers_and_bytes_come_back, files_and_states_come_back, first_version_is_kept,
-    offers_and_summaries_are_read_again, schemas_and_bytes_come_back,
+    containers_and_bytes_come_back, files_and_states_come_back, first_version_accepts_its_own,
+    first_version_is_kept, offers_and_summaries_are_read_again, schemas_and_bytes_come_back,
     summaries_and_bytes_come_back,
 };
 pub use offer_reading::read_offer;

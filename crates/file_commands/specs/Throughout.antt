@@ -14,7 +14,7 @@ use Rattle.replica_files.specs.Loads.{LoadForm, importing}
 use Rattle.replica_files.specs.declared.applying.Applied.{Applied}
 use Rattle.replica_files.specs.declared.deleting.Deleted.{Deleted}
 use Rattle.replica_files.specs.declared.deleting.DeletedRows.{DeletedRows}
-use Rattle.replica_files.specs.declared.forgetting.Forgotten.{Forgotten}
+use Rattle.replica_store.specs.declared.forgotten.Forgotten.{Forgotten}
 use Rattle.replica_files.specs.declared.importing.Imported.{Imported}
 use Rattle.file_replacing.specs.Event.{Event}
 use Rattle.file_replacing.specs.Disk.{Disk, MayLeave, MayShow, Reads}

@@ -12,7 +12,7 @@ ghost use Rattle.file_commands.specs.Refused.{IsRefusedOver, IsWhyRefused};
 use crate::Outcome;
 use crate::under_lock::{finish, leave, read_file, refusal_over_memory};
 use file_replacing::{Folder, Place};
-use replica_files::Forgotten;
+use replica_store::Forgotten;
 use std::alloc::Global;
 use table_model::{Counted, Refusal};
 

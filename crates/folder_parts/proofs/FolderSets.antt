@@ -1,13 +1,13 @@
 -- A folder's files hold the union of their sets, and a set has one file.
-use Rattle.std.specs.Prelude.{◌≡◌, ◌⊎◌, ◌↔◌, ℕ, List, [], ◌∷◌, ◌++◌, Result, Ok}
+use Rattle.std.specs.Prelude.{◌≡◌, ◌⊎◌, ℕ, List, [], ◌∷◌, ◌++◌, Result, Ok}
 use Rattle.std.proofs.Common.{refl, sym, ap, subst, ◌∙◌, inl, inr, append_assoc}
 use Rattle.table_model.specs.Operation.{Operation, Among, SameOperations}
 use Rattle.table_model.specs.Table.{Table}
 use Rattle.table_model.specs.declared.refusal.Refusal.{Refusal}
 use Rattle.replica_store.specs.Replica.{Replica}
-use Rattle.replica_files.specs.Commands.{held_in, file_of, as_held, merged_files}
+use Rattle.replica_files.specs.Commands.{held_in, file_of, as_held}
 use Rattle.replica_files.specs.FileLaws.{Holds, EachHolds, all_of, FileLaws}
-use Rattle.folder_parts.specs.FolderLaws.{Joins, FolderHolds, folder_operations, SameFolders, JoinHolds, PackKeeps, FolderIsFile, FolderFollows}
+use Rattle.folder_parts.specs.FolderLaws.{FolderHolds, folder_operations, SameFolders, JoinHolds, PackKeeps, FolderIsFile, FolderFollows}
 
 pub same_ok : (a b : Replica) → ◌≡◌ {A = Result Replica Refusal} (Ok a) (Ok b) → a ≡ b
 same_ok a b e = cc

@@ -1,10 +1,10 @@
 -- The number of batches at the front of a part is at most as many as a replica may have.
 use Rattle.std.specs.Prelude.{◌≡◌, ℕ, ◌-◌, ◌≤◌, Bool, true, false, cond, nat_le, List, length, Result, Ok, Err}
-use Rattle.std.proofs.Common.{refl, sym, ap, subst, ◌∙◌}
+use Rattle.std.proofs.Common.{refl, subst}
 use Rattle.std.proofs.lemmas.Bool.{leb-true}
 use Rattle.table_model.specs.declared.refusal.Refusal.{Refusal}
 use Rattle.table_model.specs.declared.refusal.Refusal.TheVariants.{BadCount}
-use Rattle.segment_core.specs.Format.{Format, number}
+use Rattle.segment_core.specs.Format.{number}
 use Rattle.replica_store.specs.Replica.{batch_limit}
 use Rattle.column_file.specs.SummaryBytes.{name_count}
 use Rattle.replica_files.proofs.FileLaws.{ok_one, bound_parts}

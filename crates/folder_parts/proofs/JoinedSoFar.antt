@@ -1,7 +1,7 @@
 -- Parts are joined one after another: those before a place are joined, and the readers from there on are as they were.
-use Rattle.std.specs.Prelude.{◌≡◌, ◌⊎◌, ℕ, zero, suc, ◌+◌, ◌<◌, ◌≤◌, List, [], ◌∷◌, ◌++◌, length, map as each, take, slice_get, Option, Some, Result, Ok, Err}
+use Rattle.std.specs.Prelude.{◌≡◌, ℕ, zero, suc, ◌+◌, ◌<◌, ◌≤◌, List, [], ◌∷◌, ◌++◌, length, take, Option, Result, Ok, Err}
 use Rattle.std.proofs.Common.{refl, sym, ap, subst, ◌∙◌, arith, drop, get_or, set}
-use Rattle.std.proofs.lemmas.List.{drop-set-lt, take_all, take_more, length-map}
+use Rattle.std.proofs.lemmas.List.{drop-set-lt, take_all, take_more}
 use Rattle.std.proofs.lemmas.Option.{slice_get-get_or}
 use Rattle.table_model.specs.Reading.{◌>>=◌}
 use Rattle.table_model.specs.declared.refusal.Refusal.{Refusal}
@@ -9,7 +9,7 @@ use Rattle.replica_store.specs.Replica.{Replica, merged}
 use Rattle.replica_files.specs.Commands.{held_in, merged_with}
 use Rattle.replica_files.proofs.FileLaws.{ok_one, bound_parts}
 use Rattle.replica_files.proofs.FileMerges.{same_head, same_tail}
-use Rattle.folder_parts.specs.Parts.{PartForm, IsWhole, AreWhole, bytes_of, IsFaultOf, JoinsPart, JoinsParts, StopsAt, IsPart, AreParts}
+use Rattle.folder_parts.specs.Parts.{PartForm, IsWhole, AreWhole, bytes_of, JoinsPart, JoinsParts, StopsAt, IsPart, AreParts}
 use Rattle.folder_parts.specs.declared.fault.PartFault.{PartFault}
 use Rattle.folder_parts.specs.declared.fault.PartRefusal.{PartRefusal}
 

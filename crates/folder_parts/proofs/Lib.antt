@@ -13,3 +13,4 @@ pub mod Puts
 pub mod CanonicalJoins
 pub mod Fronts
 pub mod WholeFolders
+pub mod IdleLoads

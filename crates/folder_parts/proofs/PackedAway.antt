@@ -1,9 +1,9 @@
 -- A part that a pack removes was joined, so it is within the pack; and it has another name, so other bytes, so another set.
-use Rattle.std.specs.Prelude.{◌≡◌, ◌⊎◌, ◌↔◌, ℕ, Bool, true, false, not, ◌&&◌, List, [], ◌∷◌, ◌++◌, map as each, Result}
+use Rattle.std.specs.Prelude.{◌≡◌, ℕ, Bool, true, false, not, ◌&&◌, List, [], ◌∷◌, map as each, Result}
 use Rattle.std.specs.List.{list_any}
-use Rattle.std.proofs.Common.{refl, sym, ap, subst, ◌∙◌, inl, inr}
+use Rattle.std.proofs.Common.{sym, ap, subst, ◌∙◌, inl, inr}
 use Rattle.table_model.specs.Identifier.{same_text}
-use Rattle.table_model.specs.Operation.{Operation, Among, SameOperations}
+use Rattle.table_model.specs.Operation.{Operation, SameOperations}
 use Rattle.table_model.specs.Table.{Table}
 use Rattle.table_model.specs.declared.refusal.Refusal.{Refusal}
 use Rattle.table_model.proofs.SameTable.{itself_text}
@@ -11,7 +11,7 @@ use Rattle.replica_store.specs.Replica.{Replica}
 use Rattle.replica_files.specs.Commands.{file_of}
 use Rattle.replica_files.specs.FileLaws.{Holds, EachHolds, all_of, FileLaws}
 use Rattle.folder_parts.specs.Folders.{Within, Event, Comes, Goes, AreCovered}
-use Rattle.folder_parts.specs.FolderLaws.{folder_operations, operations_found, held_operations, IsOneOf, IsPackedAway, PackedAreCovered, ArePackedAway, PacksLoseNothing}
+use Rattle.folder_parts.specs.FolderLaws.{folder_operations, operations_found, held_operations, IsOneOf, PackedAreCovered, ArePackedAway, PacksLoseNothing}
 use Rattle.folder_parts.specs.Packing.{is_removed}
 use Rattle.folder_parts.specs.PartName.{part_name}
 use Rattle.folder_parts.proofs.FolderSets.{join_holds, among_first, among_second}

@@ -1,6 +1,6 @@
 -- A part is judged by its name, read, and joined to what those before it hold.
 use Rattle.std.specs.Prelude.{◌≡◌, ◌⊎◌, [], ◌∷◌, Some, Result, Ok, Err, IfOk}
-use Rattle.std.proofs.Common.{refl, ap, subst, inl, inr}
+use Rattle.std.proofs.Common.{ap, subst, inl, inr}
 use Rattle.table_model.specs.Outcome.{Gives}
 use Rattle.table_model.specs.Reading.{Reads, ◌>>=◌}
 use Rattle.table_model.specs.declared.refusal.Refusal.{Refusal}

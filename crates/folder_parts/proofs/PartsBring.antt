@@ -29,7 +29,7 @@ use Rattle.replica_files.proofs.OperationSets.{Adds, both_agree, parts_agree, me
 use Rattle.folder_parts.specs.FolderLaws.{PartHolds, PartBrings, LoadPartHolds, NamedPartBrings, DeletesPartHolds, RowsPartHolds, OffersPartBrings}
 use Rattle.folder_parts.specs.PartsPut.{empty_replica}
 
-append_nothing : (xs : List Operation) → xs ++ [] ≡ xs
+pub append_nothing : (xs : List Operation) → xs ++ [] ≡ xs
 append_nothing [] = refl
 append_nothing (x ∷ xs) = ap (λ (rest : List Operation). x ∷ rest) (append_nothing xs)
 
@@ -37,10 +37,10 @@ pub none_is : empty_state ≡ state_of []
 unfolding state_of
 none_is = refl
 
-empty_is : (table : Table) → empty_replica table ≡ replica_of table []
+pub empty_is : (table : Table) → empty_replica table ≡ replica_of table []
 empty_is table = λ i. record { schema = table; own = record { 0 = 1 }; state = none_is i }
 
-none_agree : AreAgreeing []
+pub none_agree : AreAgreeing []
 none_agree n a b g h = absurd g
 
 -- what was added to nothing is all that the part holds
@@ -48,7 +48,7 @@ part_holds : (table : Table) (more : List Operation) (part : Replica) → Adds t
 part_holds table more part adds read = subst (λ (ops : List Operation). Holds (file_of part) table ops) (append_nothing more) (held_then table [] more part adds read)
 
 -- a load that was merged
-import-adds : (load : LoadForm) (first : BatchName) (table : Table) (ops : List Operation) (old new : Replica) (answer : Imported) → old ≡ replica_of table ops → AreAgreeing ops → importing_as load first old ≡ Ok (answer, new)
+pub import-adds : (load : LoadForm) (first : BatchName) (table : Table) (ops : List Operation) (old new : Replica) (answer : Imported) → old ≡ replica_of table ops → AreAgreeing ops → importing_as load first old ≡ Ok (answer, new)
     → Adds table ops (inserts (named_batches first load.batches)) new × (answer ≡ imported_as load first old new) × (merged old (loaded old load first) ≡ Ok (tt, new))
 import-adds load first table ops old new answer same agree made =
     let told : Unit {0} × Replica → Imported × Replica = λ done. (imported_as load first old done.1, done.1) in
@@ -78,7 +78,7 @@ agree_unlisted held own names agree name a b has comes =
       | false ↦ λ from. agree name a b has from
     ] (sym (get-unlisted names own.batches name) ∙ comes)
 
-same_by_state : (ops others : List Operation) → AreAgreeing ops → AreAgreeing others → state_of ops ≡ state_of others → SameOperations ops others
+pub same_by_state : (ops others : List Operation) → AreAgreeing ops → AreAgreeing others → state_of ops ≡ state_of others → SameOperations ops others
 same_by_state ops others here there same op =
     let a : SameOperations (operations_of (state_of ops)) ops = SameOperations-operations ops here in
     let b : SameOperations (operations_of (state_of ops)) others = subst (λ (s : State). SameOperations (operations_of s) others) (sym same) (SameOperations-operations others there) in
@@ -107,7 +107,7 @@ held_brings table ops more own state here there agree =
     )
 
 -- a name that was checked is the one that was given
-name_kept : (s : State) (first name : BatchName) (count : ℕ) → chosen_name s (Some first) [] count ≡ Ok name → name ≡ first
+pub name_kept : (s : State) (first name : BatchName) (count : ℕ) → chosen_name s (Some first) [] count ≡ Ok name → name ≡ first
 unfolding chosen_name first_name
 name_kept s first name count is = of (count == 0) (is_proper_name first) (nat_le (first.number.0 + count) 4294967296) is
   where

@@ -1,9 +1,9 @@
 -- Parts that are read one after another: those before a place were read whole, and those from there on are as they were.
-use Rattle.std.specs.Prelude.{◌≡◌, ◌⊎◌, ℕ, zero, suc, ◌+◌, ◌<◌, ◌≤◌, ◌||◌, Bool, true, false, List, [], ◌∷◌, length, Option, Result, Ok, Err, IsTrue, IfErr}
+use Rattle.std.specs.Prelude.{◌≡◌, ℕ, zero, suc, ◌+◌, ◌<◌, ◌≤◌, ◌||◌, Bool, true, false, List, [], ◌∷◌, length, Option, Result, Ok, Err, IsTrue, IfErr}
 use Rattle.std.proofs.Common.{refl, sym, ap, subst, ◌∙◌, inl, inr, arith, get_or, set}
 use Rattle.table_model.specs.Outcome.{Gives}
 use Rattle.table_model.specs.Reading.{Reads}
-use Rattle.table_model.specs.Faults.{GaveMore, CountsReads}
+use Rattle.table_model.specs.Faults.{GaveMore}
 use Rattle.table_model.specs.declared.names.Origin.{Origin}
 use Rattle.table_model.specs.declared.refusal.Refusal.{Refusal}
 use Rattle.table_model.specs.declared.refusal.Refusal.TheVariants.{Memory, ReadFault, WriteFault}
@@ -12,11 +12,10 @@ use Rattle.column_file.specs.Input.{IsReadWhole, StopsReading, is_unread, is_fau
 use Rattle.column_file.proofs.FaultsOfBytes.{Judged}
 use Rattle.column_file.proofs.OpenedSegments.{opened_from_judged}
 use Rattle.replica_store.specs.Replica.{Replica, merged}
-use Rattle.replica_store.specs.Segments.{StoreForm}
 use Rattle.replica_files.specs.Commands.{Puts}
 use Rattle.replica_files.specs.Refusals.{is_refusal_of_merge}
 use Rattle.replica_files.proofs.StoreCommands.{join_listed}
-use Rattle.folder_parts.specs.PartReads.{is_refusal_of_part, is_refusal_of_parts, is_refusal_of_pack, IsListed, Given, IsPartRead, ArePartsRead, CountsPart, StopsAtPart, StopsAtPlace, PartsInTurn, EndsPart, EndsOthers, EndsAll, EndsParts}
+use Rattle.folder_parts.specs.PartReads.{is_refusal_of_part, is_refusal_of_parts, is_refusal_of_pack, IsListed, Given, IsPartRead, ArePartsRead, CountsPart, StopsAtPart, StopsAtPlace, EndsPart, EndsOthers, EndsAll, EndsParts}
 use Rattle.folder_parts.specs.declared.fault.PartFault.{PartFault}
 use Rattle.folder_parts.specs.declared.fault.PartFault.TheVariants.{Damaged, Refused}
 use Rattle.folder_parts.specs.declared.fault.PartRefusal.{PartRefusal}

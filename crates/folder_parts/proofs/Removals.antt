@@ -1,8 +1,8 @@
 -- A file that came is within one that is there: a file that goes is less than one that came, which is within another that is there.
-use Rattle.std.specs.Prelude.{◌≡◌, ◌≢◌, ◌⊎◌, ◌↔◌, ℕ, Bool, true, false, List, [], ◌∷◌, eqb}
-use Rattle.std.proofs.Common.{refl, sym, ap, subst, ◌∙◌, inl, inr, true-eqb, false-eqb}
+use Rattle.std.specs.Prelude.{◌≡◌, ◌≢◌, ◌⊎◌, ℕ, Bool, true, false, List, [], ◌∷◌, eqb}
+use Rattle.std.proofs.Common.{refl, subst, inl, inr, true-eqb, false-eqb}
 use Rattle.table_model.specs.Operation.{Operation, Among}
-use Rattle.folder_parts.specs.Folders.{Within, IsLess, Event, Comes, Goes, Came, IsThere, IsCovered, AreCovered, WasBrought, IsHeld, NothingIsLost, IsCoveredThere, AreCoveredThere, NothingIsLostThere}
+use Rattle.folder_parts.specs.Folders.{Within, Event, Comes, Goes, Came, IsThere, IsCovered, AreCovered, NothingIsLost, IsCoveredThere, AreCoveredThere, NothingIsLostThere}
 
 Or : List ℕ → List ℕ → Type 0
 Or a b = (a ≡ b) ⊎ (a ≢ b)

@@ -1,7 +1,7 @@
 -- What is removed after a pack, by the names of strings.
 use Rattle.std.specs.Prelude.{◌≡◌, ℕ, Bool, false, not, ◌&&◌, List, map}
 use Rattle.std.specs.List.{list_any}
-use Rattle.std.proofs.Common.{refl, sym, ap, ◌∙◌}
+use Rattle.std.proofs.Common.{sym, ap, ◌∙◌}
 use Rattle.table_model.specs.Identifier.{same_text}
 use Rattle.table_model.proofs.Texts.{list_any-map}
 use Rattle.folder_parts.specs.Packing.{is_removed}

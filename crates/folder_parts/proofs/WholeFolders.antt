@@ -1,5 +1,5 @@
 -- A first part and what is joined to it are a whole folder; and what a pack of it writes.
-use Rattle.std.specs.Prelude.{◌≡◌, ◌⊎◌, true, List, ◌∷◌, Option, Result, Ok, Err}
+use Rattle.std.specs.Prelude.{◌≡◌, ◌⊎◌, true, List, Option, Result, Ok, Err}
 use Rattle.std.proofs.Common.{ℕ, refl, sym, ap, subst, ◌∙◌, inl, inr}
 use Rattle.table_model.specs.Faults.{AppendsFront}
 use Rattle.table_model.specs.Reading.{◌>>=◌}
@@ -8,7 +8,6 @@ use Rattle.table_model.specs.declared.refusal.Refusal.TheVariants.{Memory, Write
 use Rattle.replica_store.specs.Replica.{Replica}
 use Rattle.replica_files.specs.Commands.{held_in, file_of, merged_with, Puts}
 use Rattle.folder_parts.specs.Parts.{PartForm, IsWhole, bytes_of, JoinsParts, OpensParts, PacksParts, IsPartRefusal}
-use Rattle.folder_parts.specs.declared.fault.PartFault.{PartFault}
 use Rattle.folder_parts.specs.declared.fault.PartFault.TheVariants.{Refused}
 use Rattle.folder_parts.specs.declared.fault.PartRefusal.{PartRefusal}
 

@@ -1,8 +1,7 @@
 -- The laws of folders: a folder of parts of one table is what a merge of all of them makes, in any order; what may be removed from it;
 -- and what each command's part brings it.
-use Rattle.std.specs.Prelude.{◌≡◌, ◌⊎◌, ◌↔◌, ℕ, true, List, [], ◌∷◌, ◌++◌, length, map as each, Option, None, Result, Ok, Err}
-use Rattle.table_model.specs.Operation.{Operation, Among, AreAgreeing, SameOperations, operations_of}
-use Rattle.table_model.specs.State.{empty_state}
+use Rattle.std.specs.Prelude.{◌≡◌, ◌⊎◌, ◌↔◌, ℕ, true, List, [], ◌∷◌, ◌++◌, length, map as each, Result, Ok, Err}
+use Rattle.table_model.specs.Operation.{Operation, AreAgreeing, SameOperations, operations_of}
 use Rattle.table_model.specs.Table.{Table}
 use Rattle.table_model.specs.declared.names.BatchName.{BatchName}
 use Rattle.table_model.specs.declared.names.RowName.{RowName}
@@ -13,9 +12,9 @@ use Rattle.replica_files.specs.Commands.{held_in, file_of, as_held, merged_files
 use Rattle.replica_files.specs.FileLaws.{Holds, EachHolds, all_of, replica_of, inserts, deletes, deletes_where, operations_in}
 use Rattle.replica_files.specs.Loads.{LoadForm, named_batches, name_of_some}
 use Rattle.replica_files.specs.declared.importing.Imported.{Imported}
-use Rattle.folder_parts.specs.Folders.{Event, Comes, Goes, Came, IsLess, IsCovered, IsHeld, WasBrought, NothingIsLost}
+use Rattle.folder_parts.specs.Folders.{Event, Comes, Goes, Came, IsCovered, IsHeld, WasBrought, NothingIsLost}
 use Rattle.folder_parts.specs.Packing.{is_removed}
-use Rattle.folder_parts.specs.PartName.{part_name, is_part_name}
+use Rattle.folder_parts.specs.PartName.{part_name}
 use Rattle.folder_parts.specs.PartsPut.{part_of_load, part_of_named_load, part_of_deletes, part_of_rows, part_of_offers}
 
 -- files that are joined to a replica, whose own file is read as it
@@ -121,6 +120,14 @@ NamedPartBrings =
     AreAgreeing ops → part_of_named_load load first (replica_of table ops) ≡ Ok (answer, part) →
     PartBrings part table ops (inserts (named_batches first load.batches))
 
+-- A load under a given name of which no batch is new, given a folder's operations: it brings nothing. The folder holds all that it inserts,
+-- and no part is needed.
+abbrev pub NamedLoadIdle : Type 0
+NamedLoadIdle =
+    (load : LoadForm) (first : BatchName) (table : Table) (ops : List Operation) (answer : Imported) (part : Replica) →
+    AreAgreeing ops → part_of_named_load load first (replica_of table ops) ≡ Ok (answer, part) → answer.new ≡ 0 →
+    SameOperations (inserts (named_batches first load.batches) ++ ops) ops
+
 -- deletes by a condition: one for each row that it finds in the folder
 abbrev pub DeletesPartHolds : Type 0
 DeletesPartHolds =
@@ -154,6 +161,7 @@ FolderFollows =
 pub record PartLaws : Type 0 where
   pub load : LoadPartHolds
   pub named : NamedPartBrings
+  pub idle : NamedLoadIdle
   pub deletes : DeletesPartHolds
   pub rows : RowsPartHolds
   pub offers : OffersPartBrings

@@ -1,6 +1,6 @@
 -- A folder of files, each of which holds a set of operations: what may be removed.
-use Rattle.std.specs.Prelude.{◌≡◌, ◌≢◌, ◌⊎◌, ◌↔◌, ℕ, List, [], ◌∷◌, ◌++◌}
-use Rattle.table_model.specs.Operation.{Operation, Among, SameOperations}
+use Rattle.std.specs.Prelude.{◌≡◌, ◌≢◌, ◌⊎◌, ◌↔◌, ℕ, List, [], ◌∷◌}
+use Rattle.table_model.specs.Operation.{Operation, Among}
 
 -- the operations of one list are among those of another
 abbrev pub Within : List Operation → List Operation → Type 0

@@ -1,5 +1,5 @@
 -- The head of a part: its schema and how many batches it has.
-use Rattle.std.specs.Prelude.{◌≡◌, ◌==◌, ◌||◌, ℕ, ◌+◌, ◌≤◌, List, length, take, codes, Result, Ok, Err, Option, Some, None, cond, nat_le}
+use Rattle.std.specs.Prelude.{◌==◌, ◌||◌, ℕ, ◌+◌, List, length, codes, Result, Ok, Err, cond, nat_le}
 use Rattle.std.specs.List.{sum}
 use Rattle.table_model.specs.Reading.{◌>>=◌}
 use Rattle.table_model.specs.Table.{Table}

@@ -1,5 +1,5 @@
 -- Which parts are packed, and which of these are removed.
-use Rattle.std.specs.Prelude.{◌≡◌, ℕ, ◌+◌, ◌*◌, ◌-◌, ◌≤◌, ◌<◌, Bool, not, ◌&&◌, List, length, get_or, take}
+use Rattle.std.specs.Prelude.{ℕ, ◌*◌, ◌-◌, ◌≤◌, ◌<◌, Bool, not, ◌&&◌, List, length, get_or, take}
 use Rattle.std.specs.List.{list_any, sum}
 use Rattle.table_model.specs.Identifier.{same_text}
 

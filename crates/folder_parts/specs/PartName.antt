@@ -1,5 +1,5 @@
 -- The name of a part: a function of its bytes.
-use Rattle.std.specs.Prelude.{ℕ, Bool, ◌&&◌, ◌||◌, ◌==◌, nat_le, List, [], ◌∷◌, ◌++◌, length, take, drop, codes}
+use Rattle.std.specs.Prelude.{ℕ, Bool, ◌&&◌, ◌||◌, ◌==◌, nat_le, List, ◌++◌, length, take, drop, codes}
 use Rattle.std.specs.List.{list_all}
 use Rattle.table_model.specs.Identifier.{same_text}
 use Rattle.hex.specs.Hex.{encode_lower}

@@ -1,9 +1,9 @@
 -- The parts of a folder, each of which has a name and bytes, as one replica.
-use Rattle.std.specs.Prelude.{◌≡◌, ◌≢◌, ◌⊎◌, ℕ, ◌+◌, List, [], ◌∷◌, ◌++◌, length, map as each, take, slice_get, Option, Some, None, Result, Ok, Err}
+use Rattle.std.specs.Prelude.{◌≡◌, ◌≢◌, ◌⊎◌, ℕ, ◌+◌, List, [], ◌∷◌, map as each, take, slice_get, Option, Some, Result, Ok, Err}
 use Rattle.std.specs.Io.KnownBytes.{Appends}
 use Rattle.table_model.specs.Faults.{AppendsFront}
 use Rattle.table_model.specs.declared.refusal.Refusal.{Refusal}
-use Rattle.table_model.specs.declared.refusal.Refusal.TheVariants.{Memory, WriteFault}
+use Rattle.table_model.specs.declared.refusal.Refusal.TheVariants.{WriteFault}
 use Rattle.replica_store.specs.Replica.{Replica}
 use Rattle.column_file.specs.Input.{IsUnread}
 use Rattle.replica_files.specs.Commands.{held_in, file_of, as_held, merged_with, merged_files}

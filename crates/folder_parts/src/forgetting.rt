@@ -9,8 +9,8 @@ ghost use Rattle.folder_parts.specs.ForgetFolderLaws.{FolderStandsFor, AppendsSt
 ghost use Rattle.folder_parts.specs.PartsPut.{PutsPart};
 
 use crate::writing::write_part;
-use replica_files::{Forgotten, forget_dead};
-use replica_store::Store;
+use replica_files::forget_dead;
+use replica_store::{Forgotten, Store};
 use std::alloc::Global;
 use std::io::Write;
 use table_model::{Counted, Refusal};

@@ -2,8 +2,8 @@
 
 use file_commands::{HeldRows, Left};
 use file_replacing::{Folder, Place};
-use replica_files::{Applied, Deleted, DeletedRows, Forgotten, Imported, Load, file_schema};
-use replica_store::Offer;
+use replica_files::{Applied, Deleted, DeletedRows, Imported, Load, file_schema};
+use replica_store::{Forgotten, Offer};
 use std::alloc::Global;
 use std::fmt;
 use std::io::{self, Read};

@@ -6,7 +6,10 @@ use crate::folder_changes;
 use crate::folders::is_folder;
 use crate::forgetting::forget_folder;
 use crate::heads::{Headed, Heads};
-use crate::inputs::{LazyFile, name_of, reader_of, schema_ahead, schema_of, source_of, unread};
+use crate::inputs::{
+    LazyFile, SourceReader, name_of, reader_of, schema_ahead, schema_of, source_of, unread,
+    unread_by,
+};
 use crate::offer_tables::OfferTables;
 use crate::progress::{LockedReading, Progress};
 use crate::reports::write_line;
@@ -261,21 +264,27 @@ pub fn read_offers<'r, R: Eprint + Input + Files + Clock + AllocGlobal>(
 ) -> Result<Vec<Offer>, Failure> {
     let mut offers = Vec::new(rt.alloc());
     for source in sources {
-        match column_file::read_offer(rt.alloc(), &mut source_of(rt, progress, *source)) {
+        let mut reader = source_of(rt, progress, *source);
+        match column_file::read_offer(rt.alloc(), &mut reader) {
             Ok(offer) => offers.push(offer)?,
-            Err(refusal) => return Err(unread_offer(rt, refusal, *source)),
+            Err(refusal) => return Err(unread_offer(rt, refusal, *source, reader)),
         }
     }
     Ok(offers)
 }
 
 /// A refusal of an offer. A folder is not one: its parts are.
-fn unread_offer<R: Files + AllocGlobal>(rt: &R, refusal: Refusal, source: Source<'_>) -> Failure {
+fn unread_offer<R: Eprint + Input + Files + Clock + AllocGlobal>(
+    rt: &R,
+    refusal: Refusal,
+    source: Source<'_>,
+    reader: SourceReader<'_, '_, R>,
+) -> Failure {
     match source {
         Source::File(name) if refusal == Refusal::ReadFault && is_folder(rt, name) => {
             Failure::advised(rt.alloc(), CommandRefusal::from(refusal), name, NO_OFFER)
         }
-        _ => unread(rt, CommandRefusal::from(refusal), source),
+        _ => unread_by(rt, CommandRefusal::from(refusal), source, reader),
     }
 }
 
@@ -323,7 +332,9 @@ fn add_rows<R: Files + AllocGlobal, D: Read>(
     )?;
     match read_csv(rt.alloc(), &mut csv, reader, load) {
         Ok(()) => Ok(()),
-        Err(CsvError::Refused(refusal)) => Err(unread(rt, CommandRefusal::from(refusal), source)),
+        Err(CsvError::Refused(refusal)) => {
+            Err(unread(rt, CommandRefusal::from(refusal), source, &[]))
+        }
         Err(CsvError::LineTooLong { line }) => Err(fault_of_csv(
             rt.alloc(),
             source,
@@ -462,6 +473,9 @@ fn change<R: Print + Eprint + Files<File = File> + Clock + AllocGlobal>(
         Err(CommandRefusal::Named(Refusal::WriteFault)) => {
             Err(not_written(rt, file, folder.reason()))
         }
+        Err(CommandRefusal::Named(Refusal::BadMagic)) => {
+            Err(Failure::of_beginning(rt.alloc(), file, folder.beginning()))
+        }
         Err(refusal) => Err(refused(rt, file, refusal, about, folder.table(rt.alloc()).as_ref())),
     }
 }
@@ -491,8 +505,13 @@ fn not_held<R: Files + AllocGlobal>(
     about: About<'_>,
 ) -> Failure {
     if why.error == HoldError::Busy {
-        return match change.fault_of_file(rt.alloc(), &mut reader_of(rt, place.name())) {
+        let mut reader = reader_of(rt, place.name());
+        return match change.fault_of_file(rt.alloc(), &mut reader) {
             Ok(()) => Failure::of_file(rt, CommandRefusal::Busy, file),
+            Err(Refusal::BadMagic) => {
+                let input = reader.into_inner();
+                Failure::of_beginning(rt.alloc(), file, input.beginning())
+            }
             Err(earlier) => refused_alone(rt, file, CommandRefusal::from(earlier)),
         };
     }
@@ -500,6 +519,9 @@ fn not_held<R: Files + AllocGlobal>(
     let mut reader = Counted::new(Headed::new(&heads, LazyFile::new(rt, place.name())));
     match change.judge(rt.alloc(), &mut reader) {
         Ok(()) => unlocked(rt, file, place, why),
+        Err(Refusal::BadMagic) => {
+            Failure::of_beginning(rt.alloc(), file, heads.take_last().as_slice())
+        }
         Err(earlier) => {
             let refusal = CommandRefusal::from(earlier);
             refused(rt, file, refusal, about, heads.last_table().as_ref())

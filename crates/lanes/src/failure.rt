@@ -4,12 +4,11 @@ use crate::folders::is_folder;
 use crate::watched::Cause;
 use command_line::Fault;
 use refusal_sentences::{
-    CommandRefusal, KIND_BYTES, Knowledge, Pointer, Printable, Sentence, Text, fault_of_table,
-    sentence_of_text,
+    CommandRefusal, Knowledge, Pointer, Printable, Sentence, Text, fault_of_table, sentence_of_text,
 };
 use std::alloc::{AllocError, AllocFailed, Global};
 use std::fs::{self, Files};
-use std::io::{ErrorKind, Read, Write};
+use std::io::{ErrorKind, Write};
 use std::process::ExitCode;
 use table_model::{ColType, Refusal, Schema};
 
@@ -93,7 +92,6 @@ impl Failure {
     /// A refusal of what is read from a file, or written to it.
     pub fn of_file<R: Files + AllocGlobal>(rt: &R, refusal: CommandRefusal, name: &str) -> Failure {
         let knowledge = match refusal {
-            CommandRefusal::Named(Refusal::BadMagic) => return Failure::of_kind(rt, name),
             CommandRefusal::Named(Refusal::ReadFault) => known_of_reading(rt, name),
             CommandRefusal::Named(Refusal::WriteFault) => known_of_writing(rt, name),
             CommandRefusal::Exists if is_folder(rt, name) => Knowledge::Advice(FOLDER_EXISTS),
@@ -109,11 +107,19 @@ impl Failure {
         )
     }
 
-    /// A refusal of a file of another kind, by its first bytes.
-    fn of_kind<R: Files + AllocGlobal>(rt: &R, name: &str) -> Failure {
-        let mut head = [0u8; KIND_BYTES];
-        let beginning = beginning_of(rt, name, &mut head);
-        Failure::of_beginning(rt.alloc(), name, beginning)
+    /// A refusal of a file that was read and begins with these bytes: they tell of which kind it is.
+    pub fn of_input<R: Files + AllocGlobal>(
+        rt: &R,
+        refusal: CommandRefusal,
+        name: &str,
+        beginning: &[u8],
+    ) -> Failure {
+        match refusal {
+            CommandRefusal::Named(Refusal::BadMagic) => {
+                Failure::of_beginning(rt.alloc(), name, beginning)
+            }
+            _ => Failure::of_file(rt, refusal, name),
+        }
     }
 
     /// A refusal of an input of another kind, which begins with these bytes.
@@ -132,6 +138,16 @@ impl Failure {
             refusal,
             subject: name,
             knowledge: Knowledge::Held,
+        };
+        Failure::new(alloc, sentence)
+    }
+
+    /// A refusal of a batch that an input has, and one before it with other rows.
+    pub fn of_both(alloc: Global, refusal: CommandRefusal, name: &str, other: &str) -> Failure {
+        let sentence = Sentence {
+            refusal,
+            subject: name,
+            knowledge: Knowledge::Other(other),
         };
         Failure::new(alloc, sentence)
     }
@@ -271,17 +287,6 @@ impl Failure {
         }
         status
     }
-}
-
-/// The first bytes of a file that was read before, as far as there is room. There are none if it can't be read twice, as a pipe can't.
-fn beginning_of<'a, R: Files>(rt: &R, name: &str, room: &'a mut [u8]) -> &'a [u8] {
-    let is_file = fs::metadata(rt, name).is_ok_and(|found| found.is_file());
-    let count = match fs::open(rt, name) {
-        Ok(mut file) if is_file => file.read(room).unwrap_or(0),
-        _ => 0,
-    };
-    let (beginning, _) = room.split_at(count.min(room.len()));
-    beginning
 }
 
 /// Whether a word is written like an option. A hyphen alone is not.

@@ -1,12 +1,13 @@
 //! Folders of parts, as commands read them: they are listed under a lock, and read part by part.
 
+use crate::beginning::Beginning;
 use crate::failure::Failure;
-use crate::part_failures::{Unread, busy, of_folder, refused, why_unread};
+use crate::heads::{Headed, Heads};
+use crate::part_failures::{HeadedPart, Unread, busy, of_folder, path_at, why_unread};
 use crate::parts::{Opening, PartFile, Untold};
 use crate::progress::{PartCount, Progress, ToldOpening};
 use folder_parts::{
-    HEAD_BYTES, Head, Part, PartFault, PartRefusal, is_part, is_part_name, join_parts, open_parts,
-    part_head,
+    HEAD_BYTES, Head, Part, PartRefusal, is_part, is_part_name, join_parts, open_parts, part_head,
 };
 use part_folder::{Listing, Patience, is_link, list, list_locked, path_in};
 use refusal_sentences::CommandRefusal;
@@ -67,7 +68,7 @@ impl Opens for Store {
 
 /// What the heads of a folder's parts say.
 #[derive(Drop)]
-pub struct Heads {
+pub struct PartHeads {
     pub schema: Schema,
     /// How many batches each part has.
     pub batches: Vec<u32>,
@@ -173,27 +174,31 @@ pub fn is_folder<R: Files>(rt: &R, name: &str) -> bool {
     }
 }
 
-/// The part of a name, which has this path; what is told when it is opened.
-pub fn part_of<'r, R: Files + AllocGlobal, O: Opening + Drop>(
+/// The part of a name, which has this path; what is told when it is opened, and what its head comes to.
+pub fn part_of<'r, 'h, R: Files + AllocGlobal, O: Opening + Drop>(
     rt: &'r R,
     name: &str,
     path: &str,
     opening: O,
-) -> Result<Part<PartFile<'r, R, O>>, AllocError> {
+    heads: &'h Heads,
+) -> Result<HeadedPart<'r, 'h, R, O>, AllocError> {
     let name = String::from_str(rt.alloc(), name)?;
     let path = String::from_str(rt.alloc(), path)?;
-    Ok(Part::new(name, Counted::new(PartFile::new(rt, path, opening))))
+    let file = Headed::new(heads, PartFile::new(rt, path, opening));
+    Ok(Part::new(name, Counted::new(file)))
 }
 
 /// The parts of these paths, whose last components are their names.
-pub fn parts_of<'r, R: Files + AllocGlobal, O: Opening + Drop>(
+pub fn parts_of<'r, 'h, R: Files + AllocGlobal, O: Opening + Drop>(
     rt: &'r R,
     paths: &[String],
     opening: O,
-) -> Result<Vec<Part<PartFile<'r, R, O>>>, AllocError> {
+    heads: &'h Heads,
+) -> Result<Vec<HeadedPart<'r, 'h, R, O>>, AllocError> {
     let mut parts = Vec::with_capacity(rt.alloc(), paths.len())?;
     for path in paths {
-        parts.push(part_of(rt, last_of(path.as_str()), path.as_str(), opening.again())?)?;
+        let path = path.as_str();
+        parts.push(part_of(rt, last_of(path), path, opening.again(), heads)?)?;
     }
     Ok(parts)
 }
@@ -238,14 +243,15 @@ fn open_paths<H: Opens, R: Files + AllocGlobal, O: Opening + Drop>(
     paths: &[String],
     opening: O,
 ) -> Result<H, Unread> {
-    let mut readers = parts_of(rt, paths, opening)?;
+    let heads = Heads::new(rt.alloc());
+    let mut readers = parts_of(rt, paths, opening, &heads)?;
     let opened = match readers.as_mut_slice().split_first_mut() {
         Some((first, others)) => H::from_parts(rt.alloc(), first, others),
         None => return Err(Unread::Gone),
     };
     match opened {
         Ok(held) => Ok(held),
-        Err(refusal) => Err(why_unread(rt, paths, readers, refusal)),
+        Err(refusal) => Err(why_unread(rt, paths, readers, refusal, &heads)),
     }
 }
 
@@ -253,7 +259,7 @@ fn open_paths<H: Opens, R: Files + AllocGlobal, O: Opening + Drop>(
 pub fn read_heads<R: Files<File = File> + Clock + AllocGlobal + Clone + Drop>(
     rt: &R,
     folder: &str,
-) -> Result<Heads, Failure> {
+) -> Result<PartHeads, Failure> {
     let mut is_careful = false;
     let mut patience = Patience::new(rt);
     for _ in 0..u64::MAX {
@@ -282,11 +288,27 @@ enum Front {
     Folder,
 }
 
+/// Why the head of a part is not read, and what its bytes begin with.
+#[derive(Clone, Copy)]
+struct HeadFault {
+    refusal: Refusal,
+    beginning: Beginning,
+}
+
+impl HeadFault {
+    /// A fault of a part that begins with these bytes.
+    fn of(refusal: Refusal, bytes: &[u8]) -> HeadFault {
+        let mut beginning = Beginning::new();
+        beginning.add(bytes);
+        HeadFault { refusal, beginning }
+    }
+}
+
 /// What the heads of the parts of these paths say, of which there is at least one. The smallest part is read whole.
 fn heads_of<R: Files<File = File> + AllocGlobal>(
     rt: &R,
     paths: &[String],
-) -> Result<Heads, Unread> {
+) -> Result<PartHeads, Unread> {
     let mut buffer = vec![in rt.alloc(); 0u8; HEAD_BYTES]?;
     let mut batches = Vec::with_capacity(rt.alloc(), paths.len())?;
     let mut found: Option<Schema> = None;
@@ -297,7 +319,7 @@ fn heads_of<R: Files<File = File> + AllocGlobal>(
             Ok(Front::Head(head, size)) => (head, size),
             Ok(Front::Gone) => return Err(Unread::Gone),
             Ok(Front::Folder) => continue,
-            Err(fault) => return Err(Unread::Refused(of_head(rt, paths, index, index, fault))),
+            Err(why) => return Err(Unread::Refused(of_head(rt, path.as_str(), why))),
         };
         if size < smallest.1 {
             smallest = (index, size);
@@ -305,8 +327,9 @@ fn heads_of<R: Files<File = File> + AllocGlobal>(
         batches.push(head.batches)?;
         match &found {
             Some(schema) if !schema.same(&head.schema) => {
-                let fault = PartFault::Refused(Refusal::SchemaDiffers);
-                return Err(Unread::Refused(of_head(rt, paths, first, index, fault)));
+                let (path, first) = (path.as_str(), path_at(paths, first));
+                let failure = of_other_head(rt, path, &head.schema, first, schema);
+                return Err(Unread::Refused(failure));
             }
             Some(_) => {}
             None => {
@@ -319,28 +342,38 @@ fn heads_of<R: Files<File = File> + AllocGlobal>(
         return Err(Unread::Folder);
     };
     let _whole = open_one(rt, paths, smallest.0)?;
-    Ok(Heads { schema, batches })
+    Ok(PartHeads { schema, batches })
 }
 
-/// The refusal of the part of one of these paths, whose head is at fault or of another table than that of the first. If the bytes of one
-/// of the two are not those of its name, it is damaged.
-fn of_head<R: Files + AllocGlobal>(
-    rt: &R,
-    paths: &[String],
-    first: usize,
-    index: usize,
-    fault: PartFault,
-) -> Failure {
-    let is_read = fault != PartFault::Refused(Refusal::ReadFault)
-        && fault != PartFault::Refused(Refusal::Memory);
-    for at in [index, first] {
-        if let Some(path) = paths.get(at) {
-            if is_read && is_damaged(rt, path.as_str()) {
-                return refused(rt, paths, at, PartFault::Damaged);
-            }
+/// The refusal of the part of this path, whose head is at fault. If its bytes are not those of its name, it is damaged.
+fn of_head<R: Files + AllocGlobal>(rt: &R, path: &str, why: HeadFault) -> Failure {
+    match why.refusal {
+        Refusal::Memory => Failure::of(rt.alloc(), CommandRefusal::from(Refusal::Memory)),
+        refusal if refusal != Refusal::ReadFault && is_damaged(rt, path) => {
+            Failure::of_file(rt, CommandRefusal::Damaged, path)
+        }
+        refusal => {
+            let beginning = why.beginning.as_slice();
+            Failure::of_input(rt, CommandRefusal::from(refusal), path, beginning)
         }
     }
-    refused(rt, paths, index, fault)
+}
+
+/// The refusal of the part of a path, whose table is another one than that of the first. If the bytes of one of the two are not those of
+/// its name, it is damaged.
+fn of_other_head<R: Files + AllocGlobal>(
+    rt: &R,
+    path: &str,
+    found: &Schema,
+    first: &str,
+    wanted: &Schema,
+) -> Failure {
+    for name in [path, first] {
+        if is_damaged(rt, name) {
+            return Failure::of_file(rt, CommandRefusal::Damaged, name);
+        }
+    }
+    Failure::of_tables(rt.alloc(), path, found, first, wanted)
 }
 
 /// Whether a part that can be read has other bytes than its name says.
@@ -371,15 +404,18 @@ fn front_of<R: Files<File = File> + AllocGlobal>(
     rt: &R,
     path: &str,
     buffer: &mut [u8],
-) -> Result<Front, PartFault> {
+) -> Result<Front, HeadFault> {
     match read_front(rt, path, buffer) {
         Ok(Some((count, size))) => {
             let bytes = buffer.get(..count).unwrap_or(&[]);
-            Ok(Front::Head(part_head(rt.alloc(), bytes)?, size))
+            match part_head(rt.alloc(), bytes) {
+                Ok(head) => Ok(Front::Head(head, size)),
+                Err(refusal) => Err(HeadFault::of(refusal, bytes)),
+            }
         }
         Ok(None) => Ok(Front::Folder),
         Err(error) if error.kind() == ErrorKind::NotFound && !is_link(rt, path) => Ok(Front::Gone),
-        Err(_) => Err(PartFault::Refused(Refusal::ReadFault)),
+        Err(_) => Err(HeadFault::of(Refusal::ReadFault, &[])),
     }
 }
 

@@ -1,11 +1,13 @@
 //! What commands read: files that are opened at the first read, and standard input.
 
+use crate::beginning::Beginning;
 use crate::failure::{Failure, INPUT};
 use crate::folders::{Opened, is_folder, open_folder};
-use crate::heads::{HEAD_BYTES, schema_in};
+use crate::heads::schema_in;
 use crate::progress::{Progress, Told};
 use command_line::Source;
 use either::Either;
+use folder_parts::HEAD_BYTES;
 use refusal_sentences::{CommandRefusal, Sentence};
 use replica_files::{OpenFile, file_schema};
 use std::fs::{self, File, Files};
@@ -13,13 +15,14 @@ use std::io::{self, Read};
 use std::rt::Clock;
 use table_model::{Counted, Refusal, Schema};
 
-/// A file that is opened at the first read and closed at its end.
+/// A file that is opened at the first read and closed at its end, and what it begins with.
 #[derive(Drop)]
 pub struct LazyFile<'r, 'n, R: Files> {
     rt: &'r R,
     name: &'n str,
     file: Option<R::File>,
     is_begun: bool,
+    beginning: Beginning,
 }
 
 impl<'r, 'n, R: Files> LazyFile<'r, 'n, R> {
@@ -30,7 +33,13 @@ impl<'r, 'n, R: Files> LazyFile<'r, 'n, R> {
             name,
             file: None,
             is_begun: false,
+            beginning: Beginning::new(),
         }
+    }
+
+    /// What it begins with, as far as it was read.
+    pub fn beginning(&self) -> &[u8] {
+        self.beginning.as_slice()
     }
 
     /// Opens the file, if no read has begun.
@@ -50,6 +59,7 @@ impl<'r, 'n, R: Files> Read for LazyFile<'r, 'n, R> {
             return Ok(0);
         };
         let count = file.read(buffer)?;
+        self.beginning.add(buffer.get(..count).unwrap_or(&[]));
         if count == 0 && !buffer.is_empty() {
             self.file = None;
         }
@@ -62,12 +72,17 @@ pub fn reader_of<'r, 'n, R: Files>(rt: &'r R, name: &'n str) -> Counted<LazyFile
     Counted::new(LazyFile::new(rt, name))
 }
 
+/// A reader of a source that counts its failures and says how far it is.
+pub type SourceReader<'r, 'n, R> = Counted<
+    Told<'r, 'n, R, Either<<R as Input>::Reader, LazyFile<'r, 'n, R>>>,
+>;
+
 /// A source, as a reader that counts its failures and says how far it is.
 pub fn source_of<'r, 'n, R: Eprint + Input + Files + Clock>(
     rt: &'r R,
     progress: &'r Progress<'r, R>,
     source: Source<'n>,
-) -> Counted<Told<'r, 'n, R, Either<R::Reader, LazyFile<'r, 'n, R>>>> {
+) -> SourceReader<'r, 'n, R> {
     let input = match source {
         Source::Input => Either::Left(rt.reader()),
         Source::File(name) => Either::Right(LazyFile::new(rt, name)),
@@ -83,14 +98,28 @@ pub fn name_of<'n>(source: Source<'n>) -> &'n str {
     }
 }
 
-/// A refusal of what is read from a source.
+/// A refusal of what was read from a source, by its reader.
+pub fn unread_by<R: Eprint + Input + Files + Clock + AllocGlobal>(
+    rt: &R,
+    refusal: CommandRefusal,
+    source: Source<'_>,
+    reader: SourceReader<'_, '_, R>,
+) -> Failure {
+    match reader.into_inner().into_inner() {
+        Either::Left(_input) => unread(rt, refusal, source, &[]),
+        Either::Right(file) => unread(rt, refusal, source, file.beginning()),
+    }
+}
+
+/// A refusal of what was read from a source. A file begins with these bytes.
 pub fn unread<R: Files + AllocGlobal>(
     rt: &R,
     refusal: CommandRefusal,
     source: Source<'_>,
+    beginning: &[u8],
 ) -> Failure {
     match source {
-        Source::File(name) => Failure::of_file(rt, refusal, name),
+        Source::File(name) => Failure::of_input(rt, refusal, name, beginning),
         Source::Input => Failure::new(
             rt.alloc(),
             Sentence {
@@ -103,9 +132,13 @@ pub fn unread<R: Files + AllocGlobal>(
 
 /// A file's schema, once the whole file was read.
 pub fn schema_of<R: Files + AllocGlobal>(rt: &R, file: &str) -> Result<Schema, Failure> {
-    match file_schema(rt.alloc(), &mut reader_of(rt, file)) {
+    let mut reader = reader_of(rt, file);
+    match file_schema(rt.alloc(), &mut reader) {
         Ok(schema) => Ok(schema),
-        Err(refusal) => Err(Failure::of_file(rt, CommandRefusal::from(refusal), file)),
+        Err(refusal) => {
+            let input = reader.into_inner();
+            Err(Failure::of_input(rt, CommandRefusal::from(refusal), file, input.beginning()))
+        }
     }
 }
 
@@ -150,10 +183,14 @@ pub fn opened<R: Eprint + Files<File = File> + Clock + AllocGlobal + Clone + Dro
         return Ok(opened.held);
     }
     let told = Told::new(progress, Source::File(file), LazyFile::new(rt, file));
-    match OpenFile::read(rt.alloc(), &mut Counted::new(told)) {
+    let mut reader = Counted::new(told);
+    match OpenFile::read(rt.alloc(), &mut reader) {
         Ok(held) => Ok(held),
         Err(Refusal::Memory) => Err(Failure::from(Refusal::Memory)),
-        Err(refusal) => Err(Failure::of_file(rt, CommandRefusal::from(refusal), file)),
+        Err(refusal) => {
+            let input = reader.into_inner().into_inner();
+            Err(Failure::of_input(rt, CommandRefusal::from(refusal), file, input.beginning()))
+        }
     }
 }
 
@@ -166,8 +203,9 @@ pub fn opened_from<'r, R: Eprint + Input + Files<File = File> + Clock + AllocGlo
     if let Source::File(name) = source {
         return opened(rt, progress, name);
     }
-    match OpenFile::read(rt.alloc(), &mut source_of(rt, progress, source)) {
+    let mut reader = source_of(rt, progress, source);
+    match OpenFile::read(rt.alloc(), &mut reader) {
         Ok(held) => Ok(held),
-        Err(refusal) => Err(unread(rt, CommandRefusal::from(refusal), source)),
+        Err(refusal) => Err(unread_by(rt, CommandRefusal::from(refusal), source, reader)),
     }
 }

@@ -3,7 +3,7 @@
 use crate::failure::Failure;
 use crate::folder_reports;
 use crate::folders::is_folder;
-use crate::inputs::{LazyFile, opened, unread};
+use crate::inputs::{LazyFile, opened};
 use crate::peeked::Peeked;
 use crate::progress::{Progress, Told};
 use crate::reports::{buffered, flushed, told};
@@ -16,7 +16,7 @@ use replica_files::{OpenFile, list_batches};
 use std::fs::{File, Files};
 use std::io::Read;
 use std::rt::Clock;
-use table_model::{Counted, Refusal};
+use table_model::Counted;
 
 /// What a partial answer begins with.
 const PARTIAL: &[u8] = b"FLPT";
@@ -73,11 +73,10 @@ fn open<R: Files + AllocGlobal, D: Read + Drop>(
     let mut reader = Counted::new(reader);
     match OpenFile::read(rt.alloc(), &mut reader) {
         Ok(held) => Ok(held),
-        Err(Refusal::BadMagic) => {
-            let reader = reader.into_inner();
-            Err(Failure::of_beginning(rt.alloc(), file, reader.front()))
+        Err(refusal) => {
+            let input = reader.into_inner();
+            Err(Failure::of_input(rt, CommandRefusal::from(refusal), file, input.front()))
         }
-        Err(refusal) => Err(unread(rt, CommandRefusal::from(refusal), Source::File(file))),
     }
 }
 
@@ -120,7 +119,7 @@ fn inspect_partial<R: Print + Files + AllocGlobal, D: Read + Drop>(
             let outcome = inspect_partial_answer(rt.alloc(), &partial, form, &mut writer);
             told(rt, flushed(writer, outcome))
         }
-        Err(refusal) => Err(unread(rt, CommandRefusal::from(refusal), Source::File(file))),
+        Err(refusal) => Err(Failure::of_file(rt, CommandRefusal::from(refusal), file)),
     }
 }
 
@@ -137,6 +136,6 @@ fn inspect_names<R: Print + Files + AllocGlobal, D: Read + Drop>(
             let outcome = inspect_summary(rt.alloc(), &summary, form, &mut writer);
             told(rt, flushed(writer, outcome))
         }
-        Err(refusal) => Err(unread(rt, CommandRefusal::from(refusal), Source::File(file))),
+        Err(refusal) => Err(Failure::of_file(rt, CommandRefusal::from(refusal), file)),
     }
 }

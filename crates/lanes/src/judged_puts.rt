@@ -2,7 +2,8 @@
 
 use crate::failure::Failure;
 use crate::folders::{Parts, part_of, parts_of};
-use crate::part_failures::{Unread, busy, of_folder, why_unread};
+use crate::heads::Heads;
+use crate::part_failures::{Unread, busy, of_folder, path_at, why_unread};
 use crate::parts::Untold;
 use crate::putting::{place, unwritten, written};
 use file_replacing::Replaced;
@@ -97,8 +98,9 @@ fn go_together<R: Files + AllocGlobal>(
     if others.is_empty() {
         return Ok(());
     }
-    let mut first = part_of(rt, name, path, Untold)?;
-    let mut readers = parts_of(rt, others, Untold)?;
+    let heads = Heads::new(rt.alloc());
+    let mut first = part_of(rt, name, path, Untold, &heads)?;
+    let mut readers = parts_of(rt, others, Untold, &heads)?;
     let refusal = match join_parts(rt.alloc(), &mut first, readers.as_mut_slice()) {
         Ok(_store) => return Ok(()),
         Err(refusal) => refusal,
@@ -110,7 +112,31 @@ fn go_together<R: Files + AllocGlobal>(
         }
         fault => {
             let part = refusal.part.saturating_sub(1);
-            Err(why_unread(rt, others, readers, PartRefusal { part, fault }))
+            if let Some(failure) = of_other_table(
+                rt,
+                folder,
+                path_at(others, part),
+                fault,
+                &heads,
+            ) {
+                return Err(Unread::Refused(failure));
+            }
+            Err(why_unread(rt, others, readers, PartRefusal { part, fault }, &heads))
         }
     }
+}
+
+/// The refusal of a part that came to a folder and is of another table than the new part, if it is refused for that.
+fn of_other_table<R: AllocGlobal>(
+    rt: &R,
+    folder: &str,
+    path: &str,
+    fault: PartFault,
+    heads: &Heads,
+) -> Option<Failure> {
+    if fault != PartFault::Refused(Refusal::SchemaDiffers) {
+        return None;
+    }
+    let (found, wanted) = (heads.last_table()?, heads.first_table()?);
+    Some(Failure::of_tables(rt.alloc(), path, &found, folder, &wanted))
 }

@@ -7,7 +7,7 @@ use crate::folders::{Parts, is_folder};
 use crate::heads::{Headed, Heads};
 use crate::inputs::LazyFile;
 use crate::output::{Output, is_special, write_in_place};
-use crate::part_failures::{Unread, refused as part_refused, unread_for};
+use crate::part_failures::{Unread, path_at, refused as part_refused, unread_for};
 use crate::progress::{Progress, Told};
 use crate::putting::{make_folder, say};
 use crate::reports::write_line;
@@ -301,18 +301,20 @@ fn merged_inputs<'r, R: Eprint + Files + Clock + AllocGlobal>(
     let at = heads.begun().saturating_sub(1);
     let paths = inputs.paths.as_slice();
     match reason_of(readers, at) {
-        Some(PartReason::Unread(kind)) => Err(unread_for(rt, paths, at, Some(kind))),
+        Some(PartReason::Unread(kind)) => Err(unread_for(rt, path_at(paths, at), Some(kind))),
         Some(PartReason::Damaged) => Err(Unread::Refused(part_refused(
             rt,
             paths,
             at,
             PartFault::Damaged,
+            &heads,
         ))),
         None if inputs.has_folder => Err(Unread::Refused(part_refused(
             rt,
             paths,
             at,
             PartFault::Refused(refusal),
+            &heads,
         ))),
         None => Err(Unread::Refused(refused(rt, names, at, CommandRefusal::from(refusal), &heads))),
     }
@@ -363,6 +365,6 @@ fn refused<R: Files + AllocGlobal>(
                 Err(_) => Failure::of(rt.alloc(), refusal),
             }
         }
-        _ => Failure::of_file(rt, refusal, *last),
+        _ => Failure::of_input(rt, refusal, *last, heads.take_last().as_slice()),
     }
 }

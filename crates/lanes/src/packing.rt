@@ -3,6 +3,7 @@
 use crate::failure::Failure;
 use crate::folder_changes::in_memory;
 use crate::folders::{Parts, parts_of};
+use crate::heads::Heads;
 use crate::part_failures::{Unread, busy, of_folder, why_unread};
 use crate::parts::Untold;
 use crate::replacing::{Round, replace};
@@ -140,7 +141,8 @@ fn pack_once<R: Files<File = File> + Clock + RandomSource + AllocGlobal + Clone 
 /// The join of the parts of these paths, as a part.
 fn joined<R: Files + AllocGlobal>(rt: &R, paths: &[String]) -> Result<Vec<u8>, Unread> {
     let mut writer = Counted::new(Vec::new(rt.alloc()));
-    let mut readers = parts_of(rt, paths, Untold)?;
+    let heads = Heads::new(rt.alloc());
+    let mut readers = parts_of(rt, paths, Untold, &heads)?;
     let outcome = match readers.as_mut_slice().split_first_mut() {
         Some((first, others)) => folder_parts::pack(rt.alloc(), first, others, &mut writer),
         None => return Err(Unread::Gone),
@@ -156,6 +158,6 @@ fn joined<R: Files + AllocGlobal>(rt: &R, paths: &[String]) -> Result<Vec<u8>, U
             let refusal = in_memory(Refusal::WriteFault);
             Err(Unread::Refused(Failure::of(rt.alloc(), refusal)))
         }
-        Err(refusal) => Err(why_unread(rt, paths, readers, refusal)),
+        Err(refusal) => Err(why_unread(rt, paths, readers, refusal, &heads)),
     }
 }

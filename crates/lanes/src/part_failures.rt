@@ -1,16 +1,15 @@
 //! Why the parts of a folder are refused, with the names of those that are at fault.
 
 use crate::failure::Failure;
-use crate::inputs::reader_of;
+use crate::heads::{Headed, Heads};
 use crate::parts::{Opening, PartFile};
 use folder_parts::{Part, PartFault, PartRefusal};
 use part_folder::{FolderFault, is_link};
-use refusal_sentences::{CommandRefusal, Knowledge, Sentence};
-use replica_store::Store;
+use refusal_sentences::CommandRefusal;
 use std::alloc::{AllocError, AllocFailed, Global};
-use std::fs::{self, Files};
+use std::fs::Files;
 use std::io::ErrorKind;
-use table_model::{BatchName, Origin, Refusal};
+use table_model::Refusal;
 
 /// Why a look at a folder's parts came to nothing.
 #[derive(Drop)]
@@ -41,134 +40,85 @@ impl<T: Drop> From<AllocFailed<T>> for Unread {
     }
 }
 
-/// Why a part of these paths, which were read in this order, is not taken.
+/// A part of a folder whose head is kept, and the names of its batches.
+pub type HeadedPart<'r, 'h, R, O> = Part<Headed<'h, PartFile<'r, R, O>>>;
+
+/// Why a part of these paths, which were read in this order, is not taken. The heads are those of the parts.
 pub fn why_unread<R: Files + AllocGlobal, O: Opening + Drop>(
     rt: &R,
     paths: &[String],
-    mut parts: Vec<Part<PartFile<'_, R, O>>>,
+    mut parts: Vec<HeadedPart<'_, '_, R, O>>,
     refusal: PartRefusal,
+    heads: &Heads,
 ) -> Unread {
     let at = refusal.part;
     if refusal.fault == PartFault::Refused(Refusal::ReadFault) && at < parts.len() {
-        let reason = parts.swap_remove(at).into_reader().into_inner().reason();
-        return unread_for(rt, paths, at, reason);
+        let part = parts.swap_remove(at).into_reader().into_inner();
+        return unread_for(rt, path_at(paths, at), part.into_inner().reason());
     }
-    Unread::Refused(refused(rt, paths, at, refusal.fault))
+    Unread::Refused(refused(rt, paths, at, refusal.fault, heads))
 }
 
-/// Why the part of one of these paths, by its index, is not read, if the system gives this reason.
-pub fn unread_for<R: Files + AllocGlobal>(
-    rt: &R,
-    paths: &[String],
-    at: usize,
-    reason: Option<ErrorKind>,
-) -> Unread {
-    let path = path_at(paths, at);
+/// Why the part of this path is not read, if the system gives this reason.
+pub fn unread_for<R: Files + AllocGlobal>(rt: &R, path: &str, reason: Option<ErrorKind>) -> Unread {
+    let refusal = Refusal::ReadFault;
     match reason {
         Some(ErrorKind::NotFound) if !is_link(rt, path) => Unread::Gone,
         Some(ErrorKind::IsADirectory) => Unread::Folder,
         Some(ErrorKind::OutOfMemory) => Unread::Refused(Failure::from(Refusal::Memory)),
-        Some(kind) => Unread::Refused(Failure::of_reason(
-            rt.alloc(),
-            Refusal::ReadFault,
-            path,
-            kind,
-        )),
-        None => Unread::Refused(refused(rt, paths, at, PartFault::Refused(Refusal::ReadFault))),
+        Some(kind) => Unread::Refused(Failure::of_reason(rt.alloc(), refusal, path, kind)),
+        None => Unread::Refused(Failure::of_file(rt, CommandRefusal::from(refusal), path)),
     }
 }
 
-/// The refusal of the part of one of these paths, by its index. Those before it were taken.
+/// The refusal of the part of one of these paths, by its index, which was begun last. Those before it were taken.
 pub fn refused<R: Files + AllocGlobal>(
     rt: &R,
     paths: &[String],
     at: usize,
     fault: PartFault,
+    heads: &Heads,
 ) -> Failure {
     let alloc = rt.alloc();
     let path = path_at(paths, at);
     match fault {
         PartFault::Damaged => Failure::of_file(rt, CommandRefusal::Damaged, path),
-        PartFault::Refused(Refusal::SchemaDiffers) => of_other_table(rt, paths, at),
-        PartFault::Refused(Refusal::Conflict(name)) => of_conflict(rt, paths, at, name),
+        PartFault::Refused(Refusal::SchemaDiffers) => {
+            match (heads.last_table(), heads.first_table()) {
+                (Some(found), Some(wanted)) => {
+                    Failure::of_tables(alloc, path, &found, path_at(paths, 0), &wanted)
+                }
+                _ => Failure::of_file(rt, CommandRefusal::from(Refusal::SchemaDiffers), path),
+            }
+        }
+        PartFault::Refused(Refusal::Conflict(name)) => {
+            let refusal = CommandRefusal::from(Refusal::Conflict(name));
+            match heads.first_with(name) {
+                Some(other) => Failure::of_both(alloc, refusal, path, path_at(paths, other)),
+                None => Failure::of_file(rt, refusal, path),
+            }
+        }
         PartFault::Refused(Refusal::Memory) => {
             Failure::of(alloc, CommandRefusal::from(Refusal::Memory))
         }
-        PartFault::Refused(refusal) => Failure::of_file(rt, CommandRefusal::from(refusal), path),
+        PartFault::Refused(refusal) => {
+            let beginning = heads.take_last();
+            Failure::of_input(
+                rt,
+                CommandRefusal::from(refusal),
+                path,
+                beginning.as_slice(),
+            )
+        }
     }
 }
 
 /// The path of this index.
-fn path_at(paths: &[String], at: usize) -> &str {
+pub fn path_at(paths: &[String], at: usize) -> &str {
     match paths.get(at) {
         Some(path) => path.as_str(),
         None => "",
     }
-}
-
-/// The store of a part that was read before; none if it can't be read twice.
-fn opened_again<R: Files + AllocGlobal>(rt: &R, path: &str) -> Option<Store> {
-    match fs::metadata(rt, path) {
-        Ok(found) if found.is_file() => {
-            column_file::open(rt.alloc(), &mut reader_of(rt, path), Origin(1)).ok()
-        }
-        _ => None,
-    }
-}
-
-/// A refusal of a part, since its table is another one than that of the first.
-fn of_other_table<R: Files + AllocGlobal>(rt: &R, paths: &[String], at: usize) -> Failure {
-    let path = path_at(paths, at);
-    let first = path_at(paths, 0);
-    match (opened_again(rt, path), opened_again(rt, first)) {
-        (Some(found), Some(wanted)) => Failure::of_tables(
-            rt.alloc(),
-            path,
-            found.schema(),
-            first,
-            wanted.schema(),
-        ),
-        _ => Failure::of_file(rt, CommandRefusal::from(Refusal::SchemaDiffers), path),
-    }
-}
-
-/// A refusal of a part, since one before it has a batch of the same name with other rows.
-fn of_conflict<R: Files + AllocGlobal>(
-    rt: &R,
-    paths: &[String],
-    at: usize,
-    name: BatchName,
-) -> Failure {
-    let refusal = CommandRefusal::from(Refusal::Conflict(name));
-    match conflicting(rt, paths, at, name) {
-        Some(other) => {
-            let sentence = Sentence {
-                refusal,
-                subject: path_at(paths, at),
-                knowledge: Knowledge::Other(path_at(paths, other)),
-            };
-            Failure::new(rt.alloc(), sentence)
-        }
-        None => Failure::of(rt.alloc(), refusal),
-    }
-}
-
-/// Which of the parts before one of them has a batch of this name with other rows: they are opened again, one by one.
-fn conflicting<R: Files + AllocGlobal>(
-    rt: &R,
-    paths: &[String],
-    at: usize,
-    name: BatchName,
-) -> Option<usize> {
-    let refused = opened_again(rt, path_at(paths, at))?;
-    for index in 0..at.min(paths.len()) {
-        if let Some(mut other) = opened_again(rt, path_at(paths, index)) {
-            if other.merge(rt.alloc(), &refused) == Err(Refusal::Conflict(name)) {
-                return Some(index);
-            }
-        }
-    }
-    None
 }
 
 /// What a folder is refused as that can't be listed or locked.

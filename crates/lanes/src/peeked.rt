@@ -1,15 +1,13 @@
 //! A reader whose first bytes are looked at before it is read.
 
+use refusal_sentences::KIND_BYTES;
 use std::io::{self, Read};
-
-/// How many of the first bytes are looked at, at most.
-const FRONT_BYTES: usize = 16;
 
 /// A reader whose first bytes were looked at. They come again, and then what follows.
 #[derive(Drop)]
 pub struct Peeked<D> {
     inner: D,
-    front: [u8; FRONT_BYTES],
+    front: [u8; KIND_BYTES],
     length: usize,
     given: usize,
     fault: Option<io::Error>,
@@ -20,12 +18,12 @@ impl<D: Read + Drop> Peeked<D> {
     pub fn new(inner: D) -> Peeked<D> {
         let mut peeked = Peeked {
             inner,
-            front: [0; FRONT_BYTES],
+            front: [0; KIND_BYTES],
             length: 0,
             given: 0,
             fault: None,
         };
-        for _ in 0..FRONT_BYTES {
+        for _ in 0..KIND_BYTES {
             if !peeked.look() {
                 break;
             }
@@ -40,7 +38,7 @@ impl<D: Read + Drop> Peeked<D> {
         };
         match self.inner.read(room) {
             Ok(count) => {
-                self.length = self.length.saturating_add(count).min(FRONT_BYTES);
+                self.length = self.length.saturating_add(count).min(KIND_BYTES);
                 count > 0
             }
             Err(error) => {
@@ -50,7 +48,7 @@ impl<D: Read + Drop> Peeked<D> {
         }
     }
 
-    /// The first bytes, at most 16.
+    /// The first bytes, as many as tell what kind of file it is.
     pub fn front(&self) -> &[u8] {
         self.front.get(..self.length).unwrap_or(&[])
     }

@@ -3,7 +3,7 @@
 
 use crate::combined::Combined;
 use crate::failure::Failure;
-use crate::inputs::{name_of, opened_from, source_of, unread};
+use crate::inputs::{name_of, opened_from, source_of, unread, unread_by};
 use crate::progress::Progress;
 use crate::reports::{buffered, flushed, told};
 use crate::watched::Watched;
@@ -89,9 +89,12 @@ fn combined<'r, R: Eprint + Input + Files + Clock + AllocGlobal>(
     let mut combined = Combined::new(rt.alloc());
     let mut before = None;
     for source in sources {
-        let next = match read_partial_answer(rt.alloc(), &mut source_of(rt, progress, *source)) {
+        let mut reader = source_of(rt, progress, *source);
+        let next = match read_partial_answer(rt.alloc(), &mut reader) {
             Ok(next) => next,
-            Err(refusal) => return Err(unread(rt, CommandRefusal::from(refusal), *source)),
+            Err(refusal) => {
+                return Err(unread_by(rt, CommandRefusal::from(refusal), *source, reader));
+            }
         };
         if sources.len() > 1 {
             combined.add(rt.alloc(), name_of(*source), &next)?;
@@ -100,7 +103,7 @@ fn combined<'r, R: Eprint + Input + Files + Clock + AllocGlobal>(
             Ok(both) => before = Some(both),
             Err(fault) => match combined.refused(rt.alloc(), fault)? {
                 Some(failure) => return Err(failure),
-                None => return Err(refused(rt, *source, PartialAnswerError::Fault(fault))),
+                None => return Err(refused(rt, *source, fault)),
             },
         }
     }
@@ -129,19 +132,17 @@ fn finish_any<'r, R: Print + Eprint + Input + Files + Clock + AllocGlobal>(
     source: Source<'_>,
     format: Format,
 ) -> Result<(), Failure> {
+    let mut reader = source_of(rt, progress, source);
     let mut writer = Counted::new(Watched::new(io::writer(rt)));
-    let outcome = write_finished_answer(
-        rt.alloc(),
-        &mut source_of(rt, progress, source),
-        format,
-        &mut writer,
-    );
-    match outcome {
+    match write_finished_answer(rt.alloc(), &mut reader, format, &mut writer) {
         Ok(()) => Ok(()),
         Err(PartialAnswerError::Refused(Refusal::WriteFault)) => {
             told(rt, writer.into_inner().ended(Err(Refusal::WriteFault)))
         }
-        Err(error) => Err(refused(rt, source, error)),
+        Err(PartialAnswerError::Refused(refusal)) => {
+            Err(unread_by(rt, CommandRefusal::from(refusal), source, reader))
+        }
+        Err(PartialAnswerError::Fault(fault)) => Err(refused(rt, source, fault)),
     }
 }
 
@@ -153,9 +154,10 @@ fn finish_expected<'r, R: Print + Eprint + Input + Files + Clock + AllocGlobal>(
     expected: &[Source<'_>],
     format: Format,
 ) -> Result<(), Failure> {
-    let partial = match read_partial_answer(rt.alloc(), &mut source_of(rt, progress, source)) {
+    let mut reader = source_of(rt, progress, source);
+    let partial = match read_partial_answer(rt.alloc(), &mut reader) {
         Ok(partial) => partial,
-        Err(refusal) => return Err(unread(rt, CommandRefusal::from(refusal), source)),
+        Err(refusal) => return Err(unread_by(rt, CommandRefusal::from(refusal), source, reader)),
     };
     let schema = partial.schema().copy(rt.alloc())?;
     let summaries = read_summaries(rt, progress, expected)?;
@@ -166,7 +168,12 @@ fn finish_expected<'r, R: Print + Eprint + Input + Files + Clock + AllocGlobal>(
         Err(ExpectationError::Unanswered(PartialAnswerError::Refused(Refusal::WriteFault))) => {
             told(rt, writer.into_inner().ended(Err(Refusal::WriteFault)))
         }
-        Err(ExpectationError::Unanswered(error)) => Err(refused(rt, source, error)),
+        Err(ExpectationError::Unanswered(PartialAnswerError::Refused(refusal))) => {
+            Err(unread(rt, CommandRefusal::from(refusal), source, &[]))
+        }
+        Err(ExpectationError::Unanswered(PartialAnswerError::Fault(fault))) => {
+            Err(refused(rt, source, fault))
+        }
         Err(ExpectationError::SchemaDiffers) => {
             Err(of_other_table(rt, expected, summaries, name_of(source), &schema))
         }
@@ -182,9 +189,12 @@ fn read_summaries<'r, R: Eprint + Input + Files + Clock + AllocGlobal>(
 ) -> Result<Vec<Summary>, Failure> {
     let mut summaries = Vec::new(rt.alloc());
     for source in sources {
-        match read_summary(rt.alloc(), &mut source_of(rt, progress, *source)) {
+        let mut reader = source_of(rt, progress, *source);
+        match read_summary(rt.alloc(), &mut reader) {
             Ok(summary) => summaries.push(summary)?,
-            Err(refusal) => return Err(unread(rt, CommandRefusal::from(refusal), *source)),
+            Err(refusal) => {
+                return Err(unread_by(rt, CommandRefusal::from(refusal), *source, reader));
+            }
         }
     }
     Ok(summaries)
@@ -245,20 +255,12 @@ fn refusal_of(fault: PartialAnswerFault) -> CommandRefusal {
     }
 }
 
-/// Why a partial answer is not read, combined or finished.
-fn refused<R: Files + AllocGlobal>(
+/// Why a partial answer is not combined or finished.
+fn refused<R: AllocGlobal>(
     rt: &R,
     source: Source<'_>,
-    error: PartialAnswerError,
+    fault: PartialAnswerFault,
 ) -> Failure {
-    let fault = match error {
-        PartialAnswerError::Refused(refusal) => return unread(
-            rt,
-            CommandRefusal::from(refusal),
-            source,
-        ),
-        PartialAnswerError::Fault(fault) => fault,
-    };
     let refusal = refusal_of(fault);
     match fault {
         PartialAnswerFault::Memory => Failure::of(rt.alloc(), refusal),

@@ -3,7 +3,7 @@
 use crate::failure::Failure;
 use crate::folder_reports;
 use crate::folders::is_folder;
-use crate::inputs::{name_of, opened, source_of, unread};
+use crate::inputs::{name_of, opened, source_of, unread_by};
 use crate::progress::Progress;
 use crate::watched::{Cause, Watched};
 use command_line::{Source, not_for_a_terminal};
@@ -112,12 +112,10 @@ pub fn offer<R: Print + Eprint + Input + Files<File = File> + Clock + AllocGloba
         return Err(Failure::from(not_for_a_terminal(rt.alloc())));
     }
     let held = opened(rt, progress, file)?;
-    let summary = match column_file::read_summary(
-        rt.alloc(),
-        &mut source_of(rt, progress, source),
-    ) {
+    let mut reader = source_of(rt, progress, source);
+    let summary = match column_file::read_summary(rt.alloc(), &mut reader) {
         Ok(summary) => summary,
-        Err(refusal) => return Err(unread(rt, CommandRefusal::from(refusal), source)),
+        Err(refusal) => return Err(unread_by(rt, CommandRefusal::from(refusal), source, reader)),
     };
     let mut writer = buffered(rt)?;
     let outcome = replica_files::offer(rt.alloc(), &held, &summary, &mut writer);

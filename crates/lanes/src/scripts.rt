@@ -41,6 +41,6 @@ pub fn run<R: Print + Eprint + Input + Files + Clock + AllocGlobal, N: Write>(
         Err(cause) if cause.refusal == Refusal::WriteFault => {
             Err(Failure::of_output(rt.alloc(), cause))
         }
-        Err(cause) => Err(unread(rt, CommandRefusal::from(cause.refusal), source)),
+        Err(cause) => Err(unread(rt, CommandRefusal::from(cause.refusal), source, &[])),
     }
 }

@@ -46,6 +46,14 @@ impl<F: Folder + Drop> WatchedFolder<F> {
         }
     }
 
+    /// What the file begins with that was read last.
+    pub fn beginning(&self) -> &[u8] {
+        match &self.head {
+            Some(head) => head.as_slice(),
+            None => &[],
+        }
+    }
+
     /// Has the lock of a file.
     pub fn hold<R: Clock>(&mut self, rt: &R, place: &Place) -> Result<(), Unheld> {
         match hold(rt, self, place) {

@@ -1,7 +1,7 @@
 -- What the evaluator holds of few rows is what a partial answer has of them.
 use Rattle.std.specs.Prelude.{◌≡◌, ℕ, suc, ◌≤◌, Bool, true, false, cond, ◌||◌, List, [], ◌∷◌, map as each, length, All, AllPairs, is_some, Option, Some, None, ℤ, pos}
 use Rattle.std.proofs.Common.{refl, sym, ap, subst, ◌∙◌, arith, get_or}
-use Rattle.std.specs.BTreeMap.{BTreeMap, IsOrdered, is_at, keys}
+use Rattle.std.specs.BTreeMap.{is_at}
 use Rattle.std.specs.Cmp.{tied_itself}
 use Rattle.std.specs.Global.{Vec}
 use Rattle.std.specs.List.{AllByRecursion, list_any}
@@ -20,9 +20,9 @@ use Rattle.table_model.proofs.Keys.{key_total, tied_keys}
 use Rattle.table_model.specs.State.{Cells, same_cells}
 use Rattle.table_model.specs.Table.{Table}
 use Rattle.table_model.proofs.Bounds.{AreSmall, small_values, length-values_in}
+use Rattle.query_eval.specs.Entries.{Entries, place_in}
 use Rattle.query_eval.specs.Finished.{PlanShape}
-use Rattle.query_eval.specs.Grouping.{AreGroups, AreGroupsOf, AreHeld, IsHeld, aggregate_values}
-use Rattle.query_eval.specs.declared.tallies.groups.Groups.{Groups}
+use Rattle.query_eval.specs.Grouping.{AreGroups, AreHeld, IsHeld, aggregate_values}
 use Rattle.query_eval.proofs.OrderLemmas.{few_with}
 use Rattle.query_eval.specs.Kept.{AreFew}
 use Rattle.query_eval.specs.Taken.{AreTallied}
@@ -57,7 +57,7 @@ kept values (running.Count count) few small h = tally_is _ _ (h few) refl refl r
 kept values (running.Sum sums) few small h = tally_is _ _ (h few small).count (h few small).sum refl refl refl
 kept values (running.Extreme Least value) few small h = tally_is _ _ refl refl h refl refl
 kept values (running.Extreme Greatest value) few small h = tally_is _ _ refl refl refl h refl
-kept values (running.Distinct seen) few small h = tally_is _ _ refl refl refl refl (same_members seen.value.keys values h)
+kept values (running.Distinct seen) few small h = tally_is _ _ refl refl refl refl (same_members seen.value values h)
 
 one : (table : Table) (rows : List Cells) (a : Aggregate) (t : Running) → AreFew table rows → IsHeld rows a t → told t ≡ tally_of rows a
 one table rows a t few h =
@@ -146,21 +146,25 @@ pub any_tied : (q : Cells) (ks : List Cells) → list_any (same_cells q) ks ≡ 
 any_tied q [] = refl
 any_tied q (k ∷ ks) = λ i. tied_keys q k i || any_tied q ks i
 
-in_groups : (table : Table) (by : List ℕ) (rows : List Cells) (aggregates : List Aggregate) (columns : List (Vec Running)) (t : Running) (m : BTreeMap Cells ℕ) → 1 ≤ length by → AreFew table rows → IsOrdered key_cmp m → AreGroups by aggregates rows m columns
-    → each (placed columns t) m.entries ≡ each (entry_of aggregates) (groups_of by rows)
+-- a look-up by the order of the keys finds a key's place
+by_order : (es : Places) (q : Cells) → place_in es q ≡ lookup (is_at (key_cmp q)) es
+by_order es q = λ i. lookup (λ k. tied_keys q k i) es
+
+in_groups : (table : Table) (by : List ℕ) (rows : List Cells) (aggregates : List Aggregate) (columns : List (Vec Running)) (t : Running) (es : Entries) → 1 ≤ length by → AreFew table rows → IsStrictlySortedBy key_cmp (keys_of es) → AreGroups by aggregates rows es columns
+    → each (placed columns t) es ≡ each (entry_of aggregates) (groups_of by rows)
 unfolding groups_of
-in_groups table [] rows aggregates columns t m some few up h = absurd (omega arith)
-in_groups table (column ∷ by) rows aggregates columns t m some few up h =
+in_groups table [] rows aggregates columns t es some few up h = absurd (omega arith)
+in_groups table (column ∷ by) rows aggregates columns t es some few up h =
     let all_columns = column ∷ by in
-    let same = keys_are all_columns rows (keys m) (sorted_pairs (keys m) up) (λ q. sym (found_any q m.entries) ∙ h.occurs q ∙ any_tied q (each (key_of all_columns) rows)) in
-    all_told table all_columns rows aggregates columns t m.entries few (each_found (λ key place. AreHeld (rows_with all_columns rows key) aggregates columns place) m.entries up (λ q x is. h.held q x is))
+    let same = keys_are all_columns rows (keys_of es) (sorted_pairs (keys_of es) up) (λ q. sym (found_any q es) ∙ ap is_some (sym (by_order es q)) ∙ h.occurs q ∙ any_tied q (each (key_of all_columns) rows)) in
+    all_told table all_columns rows aggregates columns t es few (each_found (λ key place. AreHeld (rows_with all_columns rows key) aggregates columns place) es up (λ q x is. h.held q x (by_order es q ∙ is)))
     ∙ ap (each (keyed aggregates all_columns rows)) (sym same)
     ∙ sym (entries-keyed aggregates all_columns rows (map.keys (keys_in all_columns rows)))
 
-from_groups : (table : Table) (plan : PlanShape) (rows : List Cells) (groups : Groups) (t : Running) → 1 ≤ length plan.grouping → AreFew table rows → IsOrdered key_cmp groups.places.index → AreGroupsOf plan rows groups
-    → map.from_sorted (each (λ (e : Cells × ℕ). (e.0, told_at groups.tallies.items t e.1)) groups.places.index.entries) ≡ partial_answer_over plan rows
+from_groups : (table : Table) (plan : PlanShape) (rows : List Cells) (entries : Entries) (columns : List (Vec Running)) (t : Running) → 1 ≤ length plan.grouping → AreFew table rows → IsStrictlySortedBy key_cmp (keys_of entries) → AreGroups plan.grouping plan.aggregates rows entries columns
+    → map.from_sorted (each (λ (e : Cells × ℕ). (e.0, told_at columns t e.1)) entries) ≡ partial_answer_over plan rows
 unfolding partial_answer_over
-from_groups table plan rows groups t some few up h = ap map.from_sorted (in_groups table plan.grouping rows plan.aggregates groups.tallies.items t groups.places.index some few up h)
+from_groups table plan rows entries columns t some few up h = ap map.from_sorted (in_groups table plan.grouping rows plan.aggregates columns t entries some few up h)
 
 from_whole : (table : Table) (plan : PlanShape) (rows : List Cells) (ts : List Running) → plan.grouping ≡ [] → AreFew table rows → AreTallied plan.aggregates rows ts → map.from_sorted (([], each told ts) ∷ []) ≡ partial_answer_over plan rows
 unfolding partial_answer_over groups_of

@@ -1,7 +1,7 @@
 -- What was taken in, put at its keys, has the shape that was asked for.
 use Rattle.std.specs.Prelude.{◌≡◌, ℕ, suc, ◌≤◌, Bool, true, false, cond, ◌||◌, List, [], ◌∷◌, map as each, length, is_some, Option, Some, None}
 use Rattle.std.proofs.Common.{refl, sym, ap, subst, ◌∙◌, arith, get_or}
-use Rattle.std.specs.BTreeMap.{BTreeMap, get}
+use Rattle.std.specs.BTreeMap.{BTreeMap}
 use Rattle.std.specs.Cmp.{tied_itself}
 use Rattle.std.specs.Global.{Vec}
 use Rattle.std.specs.List.{list_any}
@@ -14,6 +14,7 @@ use Rattle.table_model.specs.State.{Cells, same_cells}
 use Rattle.table_model.specs.Table.{Table}
 use Rattle.table_model.proofs.Keys.{key_total}
 use Rattle.table_model.proofs.SameRows.{one_row}
+use Rattle.query_eval.specs.Entries.{Entries, place_in}
 use Rattle.query_eval.specs.Finished.{PlanShape, plan_of}
 use Rattle.query_eval.specs.Grouping.{AreGroupsOf, AreHeld}
 use Rattle.query_eval.specs.Taken.{AreTallied}
@@ -80,18 +81,18 @@ whole_shape plan rows made ts none h is keep = record {
 }
 
 pub groups_shape : (plan : PlanShape) (rows : List Cells) (made : KeptGroups) (groups : Groups) (t : Running) → 1 ≤ length plan.grouping → AreGroupsOf plan rows groups
-    → ((k : Cells) → tallies_at made k ≡ told_places groups.tallies.items t (get key_cmp groups.places.index k)) → AllKeep (each measure_kind plan.aggregates) made → FitPlan plan made
+    → ((k : Cells) → tallies_at made k ≡ told_places groups.tallies.items t (place_in groups.places.index k)) → AllKeep (each measure_kind plan.aggregates) made → FitPlan plan made
 groups_shape plan rows made groups t some h is keep = record {
   groups = λ k kept at. (keyed_length plan.grouping rows k (sym (h.occurs k) ∙ place_there groups.tallies.items t _ _ (sym (ap tallies_of_some at) ∙ is k)), keep k kept at);
   whole = λ e gone. absurd (omega (arith, ap length e, some));
 }
 
--- the same index and columns keep the same kinds
-pub same_kinds : (kinds : List ℕ) (made : KeptGroups) (index other : BTreeMap Cells ℕ) (columns others : List (Vec Running)) → index ≡ other → columns ≡ others
-    → (AreWithin index columns → AreOfKinds kinds index columns → AllKeep kinds made) → AreWithin other others → AreOfKinds kinds other others → AllKeep kinds made
-same_kinds kinds made index other columns others e f h =
-    subst (λ (m : BTreeMap Cells ℕ). AreWithin m others → AreOfKinds kinds m others → AllKeep kinds made) e
-    (subst (λ (cs : List (Vec Running)). AreWithin index cs → AreOfKinds kinds index cs → AllKeep kinds made) f h)
+-- entries that give each key the place that it has in an index keep the same kinds, with the same columns
+pub same_kinds : (kinds : List ℕ) (made : KeptGroups) (entries index : Entries) (columns others : List (Vec Running)) → ((k : Cells) → place_in entries k ≡ place_in index k) → columns ≡ others
+    → (AreWithin entries columns → AreOfKinds kinds entries columns → AllKeep kinds made) → AreWithin index others → AreOfKinds kinds index others → AllKeep kinds made
+same_kinds kinds made entries index columns others e f h =
+    subst (λ (cs : List (Vec Running)). AreWithin index cs → AreOfKinds kinds index cs → AllKeep kinds made) f
+    (λ within asked. h (λ key place is. within key place (sym (e key) ∙ is)) (λ key place t is. asked key place t (sym (e key) ∙ is)))
 
 -- what fits a query's measures has the shape that the query asks for
 pub asked_shape : (table : Table) (query : QueryShape) (plan : PlanShape) (m : KeptGroups) → plan ≡ measured (plan_of table.columns query) → FitPlan plan m → HaveShape table query m

@@ -1,7 +1,7 @@
 -- What was taken in, put at its keys, is the partial answer of the rows.
 use Rattle.std.specs.Prelude.{◌≡◌, ℕ, ◌≤◌, true, false, cond, List, [], ◌∷◌, map as each, length, is_some, Option, Some, None}
 use Rattle.std.proofs.Common.{refl, sym, ap, subst, ◌∙◌, arith}
-use Rattle.std.specs.BTreeMap.{BTreeMap, get}
+use Rattle.std.specs.BTreeMap.{BTreeMap}
 use Rattle.std.specs.Global.{Vec}
 use Rattle.std.specs.Ordering.{eq_by_cmp, is_eq, ordering_reverse}
 use Rattle.std.specs.declared.cmp.Ordering.{Ordering}
@@ -10,6 +10,7 @@ use Rattle.table_model.specs.Group.{key_cmp, key_of, rows_with}
 use Rattle.table_model.specs.State.{Cells}
 use Rattle.table_model.specs.Table.{Table}
 use Rattle.table_model.proofs.Keys.{key_total}
+use Rattle.query_eval.specs.Entries.{Entries, place_in}
 use Rattle.query_eval.specs.Finished.{PlanShape}
 use Rattle.query_eval.specs.Grouping.{AreGroups, AreGroupsOf}
 use Rattle.query_eval.specs.Kept.{AreFew}
@@ -43,8 +44,8 @@ whole_told table plan rows made ts none few h is = same_partial_answers _ _ (λ 
     ∙ sym (get-partial plan rows k ∙ ap (λ (by : List ℕ). when (has_keys by rows k) (tallies_of plan.aggregates (rows_at by rows k))) none))
 
 -- the partial answer of rows at some keys, by what the index has there
-at_keys : (table : Table) (column : ℕ) (by : List ℕ) (rows : List Cells) (aggregates : List Aggregate) (index : BTreeMap Cells ℕ) (columns : List (Vec Running)) (t : Running) (k : Cells) (o : Option ℕ)
-    → AreFew table rows → AreGroups (column ∷ by) aggregates rows index columns → get key_cmp index k ≡ o
+at_keys : (table : Table) (column : ℕ) (by : List ℕ) (rows : List Cells) (aggregates : List Aggregate) (index : Entries) (columns : List (Vec Running)) (t : Running) (k : Cells) (o : Option ℕ)
+    → AreFew table rows → AreGroups (column ∷ by) aggregates rows index columns → place_in index k ≡ o
     → told_places columns t o ≡ when (has_keys (column ∷ by) rows k) (tallies_of aggregates (rows_at (column ∷ by) rows k))
 at_keys table column by rows aggregates index columns t k None few h is =
     let gone : false ≡ has_keys (column ∷ by) rows k = sym (ap is_some is) ∙ h.occurs k ∙ any_tied k (each (key_of (column ∷ by)) rows) in
@@ -54,13 +55,13 @@ at_keys table column by rows aggregates index columns t k (Some place) few h is 
     let kept : told_at columns t place ≡ tallies_of aggregates (rows_with (column ∷ by) rows k) = at_place table (rows_with (column ∷ by) rows k) aggregates columns t place (few_with table (column ∷ by) rows k few) (h.held k place is) in
     λ i. when (there i) (kept i)
 
-keyed_told : (table : Table) (by : List ℕ) (rows : List Cells) (aggregates : List Aggregate) (index : BTreeMap Cells ℕ) (columns : List (Vec Running)) (t : Running) (k : Cells) → 1 ≤ length by
-    → AreFew table rows → AreGroups by aggregates rows index columns → told_places columns t (get key_cmp index k) ≡ when (has_keys by rows k) (tallies_of aggregates (rows_at by rows k))
+keyed_told : (table : Table) (by : List ℕ) (rows : List Cells) (aggregates : List Aggregate) (index : Entries) (columns : List (Vec Running)) (t : Running) (k : Cells) → 1 ≤ length by
+    → AreFew table rows → AreGroups by aggregates rows index columns → told_places columns t (place_in index k) ≡ when (has_keys by rows k) (tallies_of aggregates (rows_at by rows k))
 keyed_told table [] rows aggregates index columns t k some few h = absurd (omega arith)
-keyed_told table (column ∷ by) rows aggregates index columns t k some few h = at_keys table column by rows aggregates index columns t k (get key_cmp index k) few h refl
+keyed_told table (column ∷ by) rows aggregates index columns t k some few h = at_keys table column by rows aggregates index columns t k (place_in index k) few h refl
 
 pub groups_told : (table : Table) (plan : PlanShape) (rows : List Cells) (made : BTreeMap Cells (Vec Kept)) (groups : Groups) (t : Running) → 1 ≤ length plan.grouping → AreFew table rows → AreGroupsOf plan rows groups
-    → ((k : Cells) → tallies_at made k ≡ told_places groups.tallies.items t (get key_cmp groups.places.index k)) → partial_answer_in made ≡ partial_answer_over plan rows
+    → ((k : Cells) → tallies_at made k ≡ told_places groups.tallies.items t (place_in groups.places.index k)) → partial_answer_in made ≡ partial_answer_over plan rows
 groups_told table plan rows made groups t some few h is = same_partial_answers _ _ (λ k.
     get-partial_answer_in made k ∙ is k ∙ keyed_told table plan.grouping rows plan.aggregates groups.places.index groups.tallies.items t k some few h ∙ sym (get-partial plan rows k))
 
@@ -68,10 +69,10 @@ groups_told table plan rows made groups t some few h is = same_partial_answers _
 pub within_told : (plan : PlanShape) (rows : List Cells) (groups : Groups) → AreGroupsOf plan rows groups → AreWithin groups.places.index groups.tallies.items
 within_told plan rows groups h = λ key place is i c lt. (h.held key place is).within i c (omega (arith, lt, h.size))
 
--- the same index and columns tell the same
-pub same_told : (made : BTreeMap Cells (Vec Kept)) (index other : BTreeMap Cells ℕ) (columns others : List (Vec Running)) → index ≡ other → columns ≡ others
-    → ((t : Running) → AreWithin index columns → (k : Cells) → tallies_at made k ≡ told_places columns t (get key_cmp index k))
-    → (t : Running) → AreWithin other others → (k : Cells) → tallies_at made k ≡ told_places others t (get key_cmp other k)
-same_told made index other columns others e f h =
-    subst (λ (m : BTreeMap Cells ℕ). (t : Running) → AreWithin m others → (k : Cells) → tallies_at made k ≡ told_places others t (get key_cmp m k)) e
-    (subst (λ (cs : List (Vec Running)). (t : Running) → AreWithin index cs → (k : Cells) → tallies_at made k ≡ told_places cs t (get key_cmp index k)) f h)
+-- entries that give each key the place that it has in an index tell what the index does, with the same columns
+pub same_told : (made : BTreeMap Cells (Vec Kept)) (entries index : Entries) (columns others : List (Vec Running)) → ((k : Cells) → place_in entries k ≡ place_in index k) → columns ≡ others
+    → ((t : Running) → AreWithin entries columns → (k : Cells) → tallies_at made k ≡ told_places columns t (place_in entries k))
+    → (t : Running) → AreWithin index others → (k : Cells) → tallies_at made k ≡ told_places others t (place_in index k)
+same_told made entries index columns others e f h =
+    subst (λ (cs : List (Vec Running)). (t : Running) → AreWithin index cs → (k : Cells) → tallies_at made k ≡ told_places cs t (place_in index k)) f
+    (λ t within k. h t (λ key place is. within key place (sym (e key) ∙ is)) k ∙ ap (told_places columns t) (e k))

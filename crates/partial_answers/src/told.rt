@@ -1,11 +1,13 @@
 //! What the evaluator keeps of the groups of a query, as a partial answer has it.
 ghost use Rattle.std.specs.Prelude.{◌≡◌, ◌∷◌, [], ◌++◌, ◌<◌, ℕ, List, length, map, slice_index_or, cond, Some, None, IfOk, OnOk};
 ghost use Rattle.std.specs.Ordering.{eq_by_cmp};
-ghost use Rattle.std.specs.BTreeMap.{get};
+ghost use Rattle.std.specs.List.Sorted.{IsStrictlySortedBy};
+ghost use Rattle.std.specs.Map.{keys_of};
 ghost use Rattle.std.specs.Global.{Vec as Items};
 ghost use Rattle.table_model.specs.Group.{key_cmp};
 ghost use Rattle.table_model.specs.State.{Cells};
 ghost use Rattle.table_model.specs.Table.{Table};
+ghost use Rattle.query_eval.specs.Entries.{place_in};
 ghost use Rattle.query_eval.specs.Finished.{PlanShape};
 ghost use Rattle.query_eval.specs.Kept.{AreFew};
 ghost use Rattle.query_eval.specs.Taken.{AreTaken};
@@ -39,7 +41,7 @@ fn kept_of_tally(alloc: Global, tally: &Tally) -> Result<Kept, AllocError>
         })),
         Tally::Extreme(Extreme::Least, value) => Ok(Kept::Least(*value)),
         Tally::Extreme(Extreme::Greatest, value) => Ok(Kept::Greatest(*value)),
-        Tally::Distinct(seen) => Ok(Kept::Distinct(Values::of_set(alloc, seen)?)),
+        Tally::Distinct(seen) => Ok(Kept::Distinct(Values::of_seen(alloc, seen)?)),
     }
 }
 
@@ -83,35 +85,31 @@ fn kept_at(alloc: Global, tallies: &[Vec<Tally>], place: usize) -> Result<Vec<Ke
     Ok(all)
 }
 
-/// What the evaluator keeps of each group, at the groups' keys.
+/// What the evaluator keeps of each group, at the groups' keys, of which each has its place.
 fn groups_at(
     alloc: Global,
-    index: &mut BTreeMap<Key, usize>,
+    entries: Vec<(Key, usize)>,
     tallies: &[Vec<Tally>],
 ) -> Result<BTreeMap<Key, Vec<Kept>>, AllocError>
-    ensures value { IfOk result (λ made. (t : Running) → AreWithin index.old tallies.now → (k : Cells) → tallies_at made k ≡ told_places tallies.now t (get key_cmp index.old k)) }
-    ensures kinds { IfOk result (λ made. (kinds : List ℕ) → AreWithin index.old tallies.now → AreOfKinds kinds index.old tallies.now → AllKeep kinds made) }
+    requires { IsStrictlySortedBy key_cmp (keys_of entries.items) }
+    ensures value { IfOk result (λ made. (t : Running) → AreWithin entries.items tallies.now → (k : Cells) → tallies_at made k ≡ told_places tallies.now t (place_in entries.items k)) }
+    ensures kinds { IfOk result (λ made. (kinds : List ℕ) → AreWithin entries.items tallies.now → AreOfKinds kinds entries.items tallies.now → AllKeep kinds made) }
 {
     let mut made = BTreeMap::new(alloc);
-    for _ in 0..index.len() {
-        match index.pop_first() {
-            None => {}
-            Some((key, place)) => {
-                let kept = kept_at(alloc, tallies, place)?;
-                put_group(&mut made, key, kept)?;
-            }
-        }
+    for (key, place) in entries {
+        let kept = kept_at(alloc, tallies, place)?;
+        put_group(&mut made, key, kept)?;
     }
     Ok(made)
 }
 
 /// The groups with what is kept of a query with GROUP BY.
 fn of_groups(alloc: Global, groups: Groups) -> Result<BTreeMap<Key, Vec<Kept>>, AllocError>
-    ensures value { IfOk result (λ made. (t : Running) → AreWithin groups.places.index groups.tallies.items → (k : Cells) → tallies_at made k ≡ told_places groups.tallies.items t (get key_cmp groups.places.index k)) }
+    ensures value { IfOk result (λ made. (t : Running) → AreWithin groups.places.index groups.tallies.items → (k : Cells) → tallies_at made k ≡ told_places groups.tallies.items t (place_in groups.places.index k)) }
     ensures kinds { IfOk result (λ made. (kinds : List ℕ) → AreWithin groups.places.index groups.tallies.items → AreOfKinds kinds groups.places.index groups.tallies.items → AllKeep kinds made) }
 {
-    let mut index = groups.places.into_index();
-    let made = groups_at(alloc, &mut index, groups.tallies.as_slice())?;
+    let entries = groups.places.into_entries(alloc)?;
+    let made = groups_at(alloc, entries, groups.tallies.as_slice())?;
     Ok(made)
 }
 

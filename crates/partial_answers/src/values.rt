@@ -1,12 +1,12 @@
 //! Values, each once and in ascending order.
 ghost use Rattle.std.specs.Prelude.{◌≡◌, ◌&&◌, nat_lt, length, ℤ, IfOk};
-ghost use Rattle.std.specs.List.{IsDistinct, list_any};
+ghost use Rattle.std.specs.List.{list_any};
 ghost use Rattle.std.specs.List.Sorted.{IsStrictlySortedBy};
 ghost use Rattle.std.specs.Ordering.{int_cmp, int_eq};
 ghost use Rattle.partial_answers.specs.Kept.{HasValuesOf};
 
+use query_eval::Seen;
 use std::alloc::{AllocError, Global};
-use std::collections::HashSet;
 use std::marker::Model;
 
 /// Values, each once and in ascending order. Contracts see them as that list.
@@ -36,11 +36,11 @@ impl Values {
         Values { items }
     }
 
-    /// The values of a set.
-    pub fn of_set(alloc: Global, set: &HashSet<i64>) -> Result<Values, AllocError>
-        ensures { IfOk result (λ values. (z : ℤ) → list_any (int_eq z) values ≡ list_any (int_eq z) set.now.keys) }
+    /// The values that the evaluator has seen of a group under DISTINCT.
+    pub fn of_seen(alloc: Global, seen: &Seen) -> Result<Values, AllocError>
+        ensures { IfOk result (λ values. (z : ℤ) → list_any (int_eq z) values ≡ list_any (int_eq z) seen.now) }
     {
-        let items = sorted_values(alloc, set)?;
+        let items = sorted_values(alloc, seen)?;
         Ok(Values { items })
     }
 
@@ -62,20 +62,12 @@ impl Values {
     }
 }
 
-/// The values of a set, in any order.
-fn values_in(alloc: Global, set: &HashSet<i64>) -> Result<Vec<i64>, AllocError>
-    ensures values { IfOk result (λ values. values.items ≡ set.now.keys) }
-    ensures apart { IsDistinct int_eq set.now.keys }
-{
-    set.iter().copied().collect(alloc)
-}
-
-/// The values of a set in ascending order.
-fn sorted_values(alloc: Global, set: &HashSet<i64>) -> Result<Vec<i64>, AllocError>
-    ensures values { IfOk result (λ values. (z : ℤ) → list_any (int_eq z) values.items ≡ list_any (int_eq z) set.now.keys) }
+/// The values that the evaluator has seen, in ascending order.
+fn sorted_values(alloc: Global, seen: &Seen) -> Result<Vec<i64>, AllocError>
+    ensures values { IfOk result (λ values. (z : ℤ) → list_any (int_eq z) values.items ≡ list_any (int_eq z) seen.now) }
     ensures rising { IfOk result (λ values. IsStrictlySortedBy int_cmp values.items) }
 {
-    let mut values = values_in(alloc, set)?;
+    let mut values = seen.values(alloc)?;
     values.sort_unstable();
     Ok(values)
 }

@@ -4,12 +4,11 @@ use Rattle.std.proofs.lemmas.Bool.{and_parts, cases_lt, false≢true}
 use Rattle.std.proofs.lemmas.Bool.Decides.{Decides-eqb}
 use Rattle.std.proofs.Math.Bool.{and_assoc, and-true}
 use Rattle.table_model.specs.State.{same_cells}
-use Rattle.std.specs.BTreeMap.{BTreeMap}
+use Rattle.query_eval.specs.Entries.{Entries}
 use Rattle.std.proofs.lemmas.Bool.Decides.{nat_tests}
 use Rattle.std.proofs.lemmas.List.{get_or_append_left}
 use Rattle.std.proofs.Math.Seq.{get_or-append_seam}
 use Rattle.table_model.specs.Group.{key_of}
-use Rattle.table_model.specs.State.{Cells}
 use Rattle.transpose_order.specs.Mask.{has, rows_of}
 use Rattle.transpose_order.specs.MaskWords.{has-rows_of}
 use Rattle.query_eval.specs.Places.{IsTakenIn}
@@ -61,7 +60,7 @@ each_pushed P slices after slice e each one i s l =
         let last : length slices ≡ i = omega (arith, h, l, ap length e, length-append slices (slice ∷ [])) in
         subst (λ (k : ℕ). P (get_or (slices ++ slice ∷ []) k s)) last (subst P (sym (get_or-append_seam slices slice [] s)) one)
 
-pub sliced_code : (by : List ℕ) (v : Vector) (mask left next : List Bool) (old mid new : BTreeMap Cells ℕ) (slices after : List Slice) (slice : Slice) (codes : List ℕ) (keys : List ℤ) (count code row : ℕ)
+pub sliced_code : (by : List ℕ) (v : Vector) (mask left next : List Bool) (old mid new : Entries) (slices after : List Slice) (slice : Slice) (codes : List ℕ) (keys : List ℤ) (count code row : ℕ)
     → ((i j : ℕ) → i < j → j < count → get_or keys i (pos 0) <ℤ get_or keys j (pos 0)) → ((n : ℕ) → n < 1024 → get_or codes n 0 ≤ count) → ((n : ℕ) → n < 1024 → has mask n ≡ true → cell_of_code count keys (get_or codes n 0) ∷ [] ≡ key_of by (row_at v n))
     → AreSliced by v mask left old mid slices → code ≤ count → row < 1024 → has slice.rows row ≡ true → ((n : ℕ) → n < 1024 → has slice.rows n ≡ (has left n && (get_or codes n 0 == code)))
     → IsTakenIn (cell_of_code count keys code ∷ []) slice.place mid new → next ≡ rows_of (λ n. has left n && not (has slice.rows n)) → after ≡ slices ++ slice ∷ [] → AreSliced by v mask next old new after

@@ -31,6 +31,8 @@ pub mod VectorLemmas
 pub mod MentionLemmas
 pub mod AnswerLemmas
 pub mod OrderLemmas
+pub mod IndexLemmas
+pub mod ValueLists
 pub mod TakenLemmas
 pub mod CodeSliceLemmas
 pub mod CodeSumLemmas

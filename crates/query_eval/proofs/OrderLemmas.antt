@@ -1,8 +1,7 @@
 -- The groups that a map has are the groups of the rows, in the order of the map's keys.
 use Rattle.std.proofs.Common.{◌≡◌, ℕ, ◌+◌, ◌≤◌, ◌<◌, Bool, true, false, cond, ◌||◌, List, [], ◌∷◌, ◌++◌, map, length, get_or, take, Option, Some, None, ℤ, pos, All, AllPairs, refl, sym, ap, ◌∙◌, arith, append_assoc}
-use Rattle.std.specs.BTreeMap.{BTreeMap, IsOrdered, is_at, keys}
 use Rattle.std.specs.FinMap as finite
-use Rattle.std.specs.Map.{keys_of, lookup}
+use Rattle.std.specs.Map.{keys_of}
 use Rattle.std.specs.Global.{Vec}
 use Rattle.std.specs.List.{AllByRecursion, list_any}
 use Rattle.std.specs.List.Sorted.{IsStrictlySortedBy}
@@ -29,6 +28,7 @@ use Rattle.table_model.proofs.KeyLists.{keys_are}
 use Rattle.table_model.proofs.Keys.{tied_keys}
 use Rattle.query_eval.proofs.TableLemmas.{kept_rows_fit}
 use Rattle.query_eval.specs.Aggregate.{aggregate_value}
+use Rattle.query_eval.specs.Entries.{Entries, place_in}
 use Rattle.query_eval.specs.Finished.{GroupFields, finished_groups, finished_of}
 use Rattle.query_eval.specs.Grouping.{AreGroups, IsHeld, aggregate_values}
 use Rattle.query_eval.specs.Kept.{AreFew}
@@ -95,27 +95,36 @@ unfolding IsStrictlySortedBy
 sorted_pairs [] h = λ i j d p q. absurd (omega arith)
 sorted_pairs (k ∷ ks) h = AllPairs-cons (λ a b. key_cmp a b ≡ Less) k ks (all_of (λ b. key_cmp k b ≡ Less) ks h.0) (sorted_pairs ks h.1)
 
-module _ (m : BTreeMap Cells ℕ) where
+module _ (es : Entries) where
   some_or : (b : Bool) (t : ℕ) (o : Option ℕ) (rest : Bool) → is_some o ≡ rest → is_some (cond b (Some t) o) ≡ (b || rest)
   some_or true t o rest e = refl
   some_or false t o rest e = e
 
-  found_any : (q : Cells) (es : List (Cells × ℕ)) → is_some (lookup (is_at (key_cmp q)) es) ≡ list_any (eq_by_cmp key_cmp q) (keys_of es)
+  found_any : (q : Cells) (some : Entries) → is_some (place_in some q) ≡ list_any (same_cells q) (keys_of some)
   found_any q [] = refl
-  found_any q (e ∷ es) = some_or (is_at (key_cmp q) e.0) e.1 (lookup (is_at (key_cmp q)) es) _ (found_any q es)
+  found_any q (e ∷ rest) = some_or (same_cells q e.0) e.1 (place_in rest q) _ (found_any q rest)
 
   any_tied : (q : Cells) (ks : List Cells) → list_any (same_cells q) ks ≡ list_any (eq_by_cmp key_cmp q) ks
   any_tied q [] = refl
   any_tied q (k ∷ ks) = λ i. tied_keys q k i || any_tied q ks i
 
-  -- the finished groups in the order of the map's keys are those of the rows
-  pub groups_in_order : (named : List Aggregate) (by : List ℕ) (rows : List Cells) (tallies : List (Vec Tally)) → 1 ≤ length by → IsOrdered key_cmp m → AreGroups by named rows m tallies → map (λ key. finished_of named (group_at by rows key)) (keys m) ≡ finished_groups named by rows
+  -- the finished groups in the order of keys that ascend are those of the rows
+  pub groups_in_order : (named : List Aggregate) (by : List ℕ) (rows : List Cells) (tallies : List (Vec Tally)) → 1 ≤ length by → IsStrictlySortedBy key_cmp (keys_of es) → AreGroups by named rows es tallies → map (λ key. finished_of named (group_at by rows key)) (keys_of es) ≡ finished_groups named by rows
   unfolding finished_groups groups_of
   groups_in_order named [] rows tallies some up h = absurd (omega arith)
   groups_in_order named (column ∷ by) rows tallies some up h =
       let all = column ∷ by in
-      let same = keys_are all rows (keys m) (sorted_pairs (keys m) up) (λ q. sym (found_any q m.entries) ∙ h.occurs q ∙ any_tied q (map (key_of all) rows)) in
+      let same = keys_are all rows (keys_of es) (sorted_pairs (keys_of es) up) (λ q. sym (any_tied q (keys_of es)) ∙ sym (found_any q es) ∙ h.occurs q ∙ any_tied q (map (key_of all) rows)) in
       ap (map (λ key. finished_of named (group_at all rows key))) (sym same) ∙ sym (map-map (finished_of named) (group_at all rows) (finite.keys (keys_in all rows)))
+
+-- groups under way are so by entries that give each key the same place
+pub groups_alike : (by : List ℕ) (named : List Aggregate) (rows : List Cells) (index entries : Entries) (tallies : List (Vec Tally)) → ((key : Cells) → place_in entries key ≡ place_in index key) → length entries ≡ length index → AreGroups by named rows index tallies → AreGroups by named rows entries tallies
+groups_alike by named rows index entries tallies same many h = record {
+  size = h.size;
+  columns = λ i c l. h.columns i c l ∙ sym many;
+  held = λ key place is. h.held key place (sym (same key) ∙ is);
+  occurs = λ key. ap is_some (same key) ∙ h.occurs key;
+}
 
 pub some_column : (columns : List (Vec Tally)) → 0 < length columns → Vec Tally
 some_column [] l = absurd (omega (arith, l))

@@ -1,6 +1,6 @@
 -- Places of groups: one key more, one row more.
 use Rattle.std.proofs.Common.{◌≡◌, ◌≢◌, ℕ, zero, suc, ◌+◌, ◌<◌, ◌≤◌, ◌⊎◌, inl, inr, Bool, true, false, cond, ◌||◌, List, [], ◌∷◌, ◌++◌, map, length, get_or, set, Option, Some, None, refl, sym, ap, subst, ◌∙◌, arith, append-nil, get_or-set_same, get_or-set_other}
-use Rattle.std.specs.BTreeMap.{BTreeMap, get, is_at}
+use Rattle.query_eval.specs.Entries.{Entries, place_in}
 use Rattle.std.specs.Global.{Vec}
 use Rattle.std.specs.List.{list_any}
 use Rattle.std.specs.Option.{is_some}
@@ -9,9 +9,8 @@ use Rattle.std.proofs.lemmas.Bool.{cases_lt, false≢true, or_right}
 use Rattle.std.proofs.lemmas.List.{map-append}
 use Rattle.std.proofs.lemmas.List.Folds.{list_any-append}
 use Rattle.std.proofs.lemmas.Option.{none-some, same_Some}
-use Rattle.table_model.specs.Group.{key_cmp, key_of}
+use Rattle.table_model.specs.Group.{key_of}
 use Rattle.table_model.specs.State.{Cells, same_cells}
-use Rattle.table_model.proofs.Keys.{tied_keys}
 use Rattle.table_model.proofs.SameRows.{one_row, itself_row}
 use Rattle.transpose_order.specs.Mask.{has}
 use Rattle.query_eval.specs.Places.{ArePlaced, IsGrown, IsIndex, IsTakenIn, rows_below}
@@ -35,45 +34,45 @@ turned key q e = by_test (same_cells q key) refl
     by_test false t = refl
     by_test true t = absurd (false≢true (sym e ∙ ap (same_cells key) (one_row q key t) ∙ itself_row key))
 
-pub grown_same : (m : BTreeMap Cells ℕ) → IsGrown m m
+pub grown_same : (m : Entries) → IsGrown m m
 grown_same m = record { kept = λ key place e. e; fresh = λ key place none e. absurd (none-some place (sym none ∙ e)); longer = omega arith }
 
 -- what grew twice has grown
-pub grown_more : (old mid new : BTreeMap Cells ℕ) → IsGrown old mid → IsGrown mid new → IsGrown old new
+pub grown_more : (old mid new : Entries) → IsGrown old mid → IsGrown mid new → IsGrown old new
 grown_more old mid new g h = record {
   kept = λ q p e. h.kept q p (g.kept q p e);
-  fresh = λ q p none e. one q p none e (get key_cmp mid q) refl;
+  fresh = λ q p none e. one q p none e (place_in mid q) refl;
   longer = omega (arith, g.longer, h.longer);
 }
   where
-    one : (q : Cells) (p : ℕ) → get key_cmp old q ≡ None → get key_cmp new q ≡ Some p → (o : Option ℕ) → get key_cmp mid q ≡ o → length old.entries ≤ p
+    one : (q : Cells) (p : ℕ) → place_in old q ≡ None → place_in new q ≡ Some p → (o : Option ℕ) → place_in mid q ≡ o → length old ≤ p
     one q p none e None m = omega (arith, h.fresh q p m e, g.longer)
     one q p none e (Some r) m = let same : r ≡ p = same_Some _ _ (sym (h.kept q r m) ∙ e) in omega (arith, g.fresh q r none m, same)
 
 -- a key that has a place
-pub taken_known : (key : Cells) (place : ℕ) (m : BTreeMap Cells ℕ) → get key_cmp m key ≡ Some place → IsTakenIn key place m m
+pub taken_known : (key : Cells) (place : ℕ) (m : Entries) → place_in m key ≡ Some place → IsTakenIn key place m m
 taken_known key place m is = record {
   grown = grown_same m;
   now = is;
-  occurs = λ q. or_known (is_some (get key_cmp m q)) (same_cells q key) (λ e. ap (λ (k : Cells). is_some (get key_cmp m k)) (one_row q key e) ∙ ap is_some is);
+  occurs = λ q. or_known (is_some (place_in m q)) (same_cells q key) (λ e. ap (λ (k : Cells). is_some (place_in m k)) (one_row q key e) ∙ ap is_some is);
 }
 
 -- a key that comes gets the next place
-module _ (key : Cells) (old new : BTreeMap Cells ℕ) (n : ℕ) (many : n ≡ length old.entries) (none : get key_cmp old key ≡ None) (updates : (q : Cells) → get key_cmp new q ≡ cond (is_at (key_cmp key) q) (Some n) (get key_cmp old q)) (longer : length new.entries ≡ length old.entries + 1) where
-  here : (q : Cells) (b : Bool) → same_cells key q ≡ b → get key_cmp new q ≡ cond b (Some n) (get key_cmp old q)
-  here q b e = updates q ∙ ap (λ c. cond c (Some n) (get key_cmp old q)) (sym (tied_keys key q) ∙ e)
+module _ (key : Cells) (old new : Entries) (n : ℕ) (many : n ≡ length old) (none : place_in old key ≡ None) (updates : (q : Cells) → place_in new q ≡ cond (same_cells key q) (Some n) (place_in old q)) (longer : length new ≡ length old + 1) where
+  here : (q : Cells) (b : Bool) → same_cells key q ≡ b → place_in new q ≡ cond b (Some n) (place_in old q)
+  here q b e = updates q ∙ ap (λ c. cond c (Some n) (place_in old q)) e
 
-  one_kept : (q : Cells) (place : ℕ) → get key_cmp old q ≡ Some place → (b : Bool) → same_cells key q ≡ b → get key_cmp new q ≡ Some place
-  one_kept q place is true e = absurd (none-some place (sym none ∙ ap (get key_cmp old) (one_row key q e) ∙ is))
+  one_kept : (q : Cells) (place : ℕ) → place_in old q ≡ Some place → (b : Bool) → same_cells key q ≡ b → place_in new q ≡ Some place
+  one_kept q place is true e = absurd (none-some place (sym none ∙ ap (place_in old) (one_row key q e) ∙ is))
   one_kept q place is false e = here q false e ∙ is
 
-  one_fresh : (q : Cells) (place : ℕ) → get key_cmp old q ≡ None → get key_cmp new q ≡ Some place → (b : Bool) → same_cells key q ≡ b → length old.entries ≤ place
+  one_fresh : (q : Cells) (place : ℕ) → place_in old q ≡ None → place_in new q ≡ Some place → (b : Bool) → same_cells key q ≡ b → length old ≤ place
   one_fresh q place was is true e = omega (arith, same_Some _ _ (sym (here q true e) ∙ is), many)
   one_fresh q place was is false e = absurd (none-some place (sym was ∙ sym (here q false e) ∙ is))
 
-  one_occurs : (q : Cells) (b : Bool) → same_cells key q ≡ b → is_some (get key_cmp new q) ≡ (is_some (get key_cmp old q) || same_cells q key)
-  one_occurs q true e = ap is_some (here q true e) ∙ sym (or_right (is_some (get key_cmp old q)) (same_cells q key) (ap (same_cells q) (one_row key q e) ∙ itself_row q))
-  one_occurs q false e = ap is_some (here q false e) ∙ or_false (is_some (get key_cmp old q)) (same_cells q key) (turned key q e)
+  one_occurs : (q : Cells) (b : Bool) → same_cells key q ≡ b → is_some (place_in new q) ≡ (is_some (place_in old q) || same_cells q key)
+  one_occurs q true e = ap is_some (here q true e) ∙ sym (or_right (is_some (place_in old q)) (same_cells q key) (ap (same_cells q) (one_row key q e) ∙ itself_row q))
+  one_occurs q false e = ap is_some (here q false e) ∙ or_false (is_some (place_in old q)) (same_cells q key) (turned key q e)
 
   pub taken_new : IsTakenIn key n old new
   taken_new = record {
@@ -94,18 +93,18 @@ module _ (key : Cells) (old new : BTreeMap Cells ℕ) (n : ℕ) (many : n ≡ le
     null = λ place is. one_kept (None ∷ []) place (h.null place is) (same_cells key (None ∷ [])) refl;
   }
     where
-      one_below : (q : Cells) (place : ℕ) → get key_cmp new q ≡ Some place → (b : Bool) → same_cells key q ≡ b → place < length new.entries
+      one_below : (q : Cells) (place : ℕ) → place_in new q ≡ Some place → (b : Bool) → same_cells key q ≡ b → place < length new
       one_below q place is true e = omega (arith, same_Some _ _ (sym (here q true e) ∙ is), many, longer)
       one_below q place is false e = omega (arith, h.below q place (sym (here q false e) ∙ is), longer)
 
-      one_apart : (q r : Cells) (place : ℕ) → get key_cmp new q ≡ Some place → get key_cmp new r ≡ Some place → (b c : Bool) → same_cells key q ≡ b → same_cells key r ≡ c → q ≡ r
+      one_apart : (q r : Cells) (place : ℕ) → place_in new q ≡ Some place → place_in new r ≡ Some place → (b c : Bool) → same_cells key q ≡ b → same_cells key r ≡ c → q ≡ r
       one_apart q r place is also true true e f = sym (one_row key q e) ∙ one_row key r f
       one_apart q r place is also true false e f = absurd (omega (arith, same_Some _ _ (sym (here q true e) ∙ is), many, h.below r place (sym (here r false f) ∙ also)))
       one_apart q r place is also false true e f = absurd (omega (arith, same_Some _ _ (sym (here r true f) ∙ also), many, h.below q place (sym (here q false e) ∙ is)))
       one_apart q r place is also false false e f = h.apart q r place (sym (here q false e) ∙ is) (sym (here r false f) ∙ also)
 
 -- a value's place is remembered
-pub index_remembered : (index : BTreeMap Cells ℕ) (before after : Vec (Option Recent)) (null : Option ℕ) (entry : Recent) → get key_cmp index (Some entry.value ∷ []) ≡ Some entry.place → ((i : ℕ) (r : Recent) → get_or after.items i None ≡ Some r → (r ≡ entry) ⊎ (get_or before.items i None ≡ Some r)) → IsIndex (record { index = index; recent = before; null = null }) → IsIndex (record { index = index; recent = after; null = null })
+pub index_remembered : (index : Entries) (before after : Vec (Option Recent)) (null : Option ℕ) (entry : Recent) → place_in index (Some entry.value ∷ []) ≡ Some entry.place → ((i : ℕ) (r : Recent) → get_or after.items i None ≡ Some r → (r ≡ entry) ⊎ (get_or before.items i None ≡ Some r)) → IsIndex (record { index = index; recent = before; null = null }) → IsIndex (record { index = index; recent = after; null = null })
 index_remembered index before after null entry is from h = record {
   below = h.below;
   apart = h.apart;
@@ -113,12 +112,12 @@ index_remembered index before after null entry is from h = record {
   null = h.null;
 }
   where
-    one : (i : ℕ) (r : Recent) → (r ≡ entry) ⊎ (get_or before.items i None ≡ Some r) → get key_cmp index (Some r.value ∷ []) ≡ Some r.place
-    one i r (inl e) = subst (λ (x : Recent). get key_cmp index (Some x.value ∷ []) ≡ Some x.place) (sym e) is
+    one : (i : ℕ) (r : Recent) → (r ≡ entry) ⊎ (get_or before.items i None ≡ Some r) → place_in index (Some r.value ∷ []) ≡ Some r.place
+    one i r (inl e) = subst (λ (x : Recent). place_in index (Some x.value ∷ []) ≡ Some x.place) (sym e) is
     one i r (inr e) = h.recent i r e
 
 -- the place of null is remembered
-pub index_null : (index : BTreeMap Cells ℕ) (recent : Vec (Option Recent)) (before : Option ℕ) (place : ℕ) → get key_cmp index (None ∷ []) ≡ Some place → IsIndex (record { index = index; recent = recent; null = before }) → IsIndex (record { index = index; recent = recent; null = Some place })
+pub index_null : (index : Entries) (recent : Vec (Option Recent)) (before : Option ℕ) (place : ℕ) → place_in index (None ∷ []) ≡ Some place → IsIndex (record { index = index; recent = recent; null = before }) → IsIndex (record { index = index; recent = recent; null = Some place })
 index_null index recent before place is h = record {
   below = h.below;
   apart = h.apart;
@@ -127,41 +126,41 @@ index_null index recent before place is h = record {
 }
 
 -- no row has a place yet
-pub placed_none : (by : List ℕ) (v : Vector) (mask : List Bool) (m : BTreeMap Cells ℕ) (places : List ℕ) → ArePlaced 0 by v mask m m places
-placed_none by v mask m places = record { grown = grown_same m; placed = λ n l. absurd (omega arith); occurs = λ key. or_false (is_some (get key_cmp m key)) false refl }
+pub placed_none : (by : List ℕ) (v : Vector) (mask : List Bool) (m : Entries) (places : List ℕ) → ArePlaced 0 by v mask m m places
+placed_none by v mask m places = record { grown = grown_same m; placed = λ n l. absurd (omega arith); occurs = λ key. or_false (is_some (place_in m key)) false refl }
 
 any-append : (key other : Cells) (ks : List Cells) → list_any (same_cells key) (ks ++ other ∷ []) ≡ (list_any (same_cells key) ks || same_cells key other)
 any-append key other ks = list_any-append (same_cells key) ks (other ∷ []) ∙ ap (λ b. list_any (same_cells key) ks || b) (or-false (same_cells key other))
 
-module _ (k : ℕ) (by : List ℕ) (v : Vector) (mask : List Bool) (old mid : BTreeMap Cells ℕ) (places : List ℕ) (h : ArePlaced k by v mask old mid places) where
+module _ (k : ℕ) (by : List ℕ) (v : Vector) (mask : List Bool) (old mid : Entries) (places : List ℕ) (h : ArePlaced k by v mask old mid places) where
   -- the next row isn't one of the mask
   pub placed_left : has mask k ≡ false → ArePlaced (k + 1) by v mask old mid places
   placed_left off = record {
     grown = h.grown;
     placed = λ n l on. one n l on (cases_lt n k);
-    occurs = λ key. h.occurs key ∙ ap (λ rows. is_some (get key_cmp old key) || list_any (same_cells key) (map (key_of by) rows)) (sym (append-nil (rows_below k v mask)) ∙ sym (below_more k v mask false off));
+    occurs = λ key. h.occurs key ∙ ap (λ rows. is_some (place_in old key) || list_any (same_cells key) (map (key_of by) rows)) (sym (append-nil (rows_below k v mask)) ∙ sym (below_more k v mask false off));
   }
     where
-      one : (n : ℕ) → n < k + 1 → has mask n ≡ true → (n < k) ⊎ (k ≤ n) → get key_cmp mid (key_of by (row_at v n)) ≡ Some (get_or places n 0)
+      one : (n : ℕ) → n < k + 1 → has mask n ≡ true → (n < k) ⊎ (k ≤ n) → place_in mid (key_of by (row_at v n)) ≡ Some (get_or places n 0)
       one n l on (inl m) = h.placed n m on
       one n l on (inr m) = let e : k ≡ n = omega arith in absurd (false≢true (sym off ∙ ap (has mask) e ∙ on))
 
   -- the next row has a place
-  pub placed_more : (new : BTreeMap Cells ℕ) (key : Cells) (place : ℕ) (after : List ℕ) → has mask k ≡ true → key ≡ key_of by (row_at v k) → IsTakenIn key place mid new → k < length places → after ≡ set places k place → ArePlaced (k + 1) by v mask old new after
+  pub placed_more : (new : Entries) (key : Cells) (place : ℕ) (after : List ℕ) → has mask k ≡ true → key ≡ key_of by (row_at v k) → IsTakenIn key place mid new → k < length places → after ≡ set places k place → ArePlaced (k + 1) by v mask old new after
   placed_more new key place after on is t within now = record {
     grown = grown_more old mid new h.grown t.grown;
     placed = λ n l m. one n l m (cases_lt n k);
-    occurs = λ q. t.occurs q ∙ ap (λ b. b || same_cells q key) (h.occurs q) ∙ or_assoc (is_some (get key_cmp old q)) (list_any (same_cells q) (map (key_of by) (rows_below k v mask))) (same_cells q key)
-        ∙ ap (λ b. is_some (get key_cmp old q) || b) (ap (λ (x : Cells). list_any (same_cells q) (map (key_of by) (rows_below k v mask)) || same_cells q x) is ∙ sym (any-append q (key_of by (row_at v k)) (map (key_of by) (rows_below k v mask)))
+    occurs = λ q. t.occurs q ∙ ap (λ b. b || same_cells q key) (h.occurs q) ∙ or_assoc (is_some (place_in old q)) (list_any (same_cells q) (map (key_of by) (rows_below k v mask))) (same_cells q key)
+        ∙ ap (λ b. is_some (place_in old q) || b) (ap (λ (x : Cells). list_any (same_cells q) (map (key_of by) (rows_below k v mask)) || same_cells q x) is ∙ sym (any-append q (key_of by (row_at v k)) (map (key_of by) (rows_below k v mask)))
         ∙ ap (list_any (same_cells q)) (sym (map-append (key_of by) (rows_below k v mask) (row_at v k ∷ []))) ∙ ap (λ rows. list_any (same_cells q) (map (key_of by) rows)) (sym (below_more k v mask true on)));
   }
     where
-      one : (n : ℕ) → n < k + 1 → has mask n ≡ true → (n < k) ⊎ (k ≤ n) → get key_cmp new (key_of by (row_at v n)) ≡ Some (get_or after n 0)
+      one : (n : ℕ) → n < k + 1 → has mask n ≡ true → (n < k) ⊎ (k ≤ n) → place_in new (key_of by (row_at v n)) ≡ Some (get_or after n 0)
       one n l m (inl b) = let ne : n ≢ k = omega arith in t.grown.kept (key_of by (row_at v n)) (get_or places n 0) (h.placed n b m) ∙ ap Some (sym (ap (λ xs. get_or xs n 0) now ∙ get_or-set_other places k n place 0 ne))
       one n l m (inr b) =
           let e : k ≡ n = omega arith in
-          subst (λ (j : ℕ). get key_cmp new (key_of by (row_at v j)) ≡ Some (get_or after j 0)) e
-          (ap (get key_cmp new) (sym is) ∙ t.now ∙ ap Some (sym (ap (λ xs. get_or xs k 0) now ∙ get_or-set_same places k place 0 within)))
+          subst (λ (j : ℕ). place_in new (key_of by (row_at v j)) ≡ Some (get_or after j 0)) e
+          (ap (place_in new) (sym is) ∙ t.now ∙ ap Some (sym (ap (λ xs. get_or xs k 0) now ∙ get_or-set_same places k place 0 within)))
 
 -- what is remembered at a place of the list
 pub entry_at : (entries : List (Option Recent)) (i : ℕ) (found : Option Recent) (recent : Recent) → i < length entries → found ≡ get_or entries i found → found ≡ Some recent → get_or entries i None ≡ Some recent
@@ -176,7 +175,7 @@ only_one f (y ∷ []) x e at = ap (λ z. f z ∷ []) at
 only_one f (y ∷ z ∷ zs) x e at = absurd (omega (arith, e))
 
 -- no row is one of the mask
-pub placed_nowhere : (k : ℕ) (by : List ℕ) (v : Vector) (mask : List Bool) (m : BTreeMap Cells ℕ) (places : List ℕ) → ((n : ℕ) → n < k → has mask n ≡ false) → ArePlaced k by v mask m m places
+pub placed_nowhere : (k : ℕ) (by : List ℕ) (v : Vector) (mask : List Bool) (m : Entries) (places : List ℕ) → ((n : ℕ) → n < k → has mask n ≡ false) → ArePlaced k by v mask m m places
 placed_nowhere zero by v mask m places h = placed_none by v mask m places
 placed_nowhere (suc k) by v mask m places h =
     let e : k + 1 ≡ suc k = omega arith in

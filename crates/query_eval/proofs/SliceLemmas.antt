@@ -1,6 +1,6 @@
 -- Slices of a vector's rows by their keys.
 use Rattle.std.proofs.Common.{◌≡◌, ◌==◌, ℕ, zero, suc, ◌+◌, ◌-◌, ◌<◌, ◌≤◌, ltb, Bool, true, false, cond, not, ◌&&◌, ◌||◌, List, [], ◌∷◌, ◌++◌, map, filter, length, get_or, take, Some, None, ℤ, pos, refl, sym, ap, subst, ◌∙◌, arith, append-nil, append_assoc}
-use Rattle.std.specs.BTreeMap.{BTreeMap, get}
+use Rattle.query_eval.specs.Entries.{Entries, place_in}
 use Rattle.std.specs.List.{cons_option, list_any, range_with_len}
 use Rattle.std.specs.Option.{is_some}
 use Rattle.std.specs.Ordering.{int_eq}
@@ -9,7 +9,7 @@ use Rattle.std.proofs.lemmas.Bool.{and_parts, false≢true, le-ltb, lt-ltb, ltb-
 use Rattle.std.proofs.lemmas.Bool.Decides.{Decides-eqb, Decides-int_eq}
 use Rattle.std.proofs.lemmas.List.{map-append, take_more}
 use Rattle.std.proofs.lemmas.Option.{same_Some}
-use Rattle.table_model.specs.Group.{key_cmp, key_of, rows_with}
+use Rattle.table_model.specs.Group.{key_of, rows_with}
 use Rattle.table_model.specs.State.{Cells, same_cell, same_cells}
 use Rattle.table_model.specs.Values.{present}
 use Rattle.table_model.proofs.SameRows.{one_row, itself_row}
@@ -209,7 +209,7 @@ module _ (by : List ℕ) (v : Vector) where
   unfolding rows_at rows_of key_at
   flagged mask q = flags_of (same_cells q) (has mask) (row_at v) by (range_with_len 0 1024)
 
-  module _ (index : BTreeMap Cells ℕ) (mask : List Bool) (slice : Slice) (one : IsSlice by v index mask slice) (q : Cells) where
+  module _ (index : Entries) (mask : List Bool) (slice : Slice) (one : IsSlice by v index mask slice) (q : Cells) where
     is_outside : (n : ℕ) → n < 1024 → has (rows_outside mask slice) n ≡ (has mask n && not (has mask n && (ltb n one.end && same_cells one.key (key_at n))))
     unfolding key_at
     is_outside n l = has-rows_of (λ n. has mask n && not (has slice.rows n)) n l ∙ ap (λ b. has mask n && not b) (one.rows n l)
@@ -275,27 +275,27 @@ module _ (by : List ℕ) (v : Vector) where
     rows_other e = with_key (rows_outside mask slice) q ∙ passing_like (λ n. has (rows_outside mask slice) n && same_cells q (key_at n)) (λ n. has mask n && same_cells q (key_at n)) (outside_other e) ∙ sym (with_key mask q)
 
 -- ---- one slice more
-slice_grown : (by : List ℕ) (v : Vector) (mid new : BTreeMap Cells ℕ) (mask : List Bool) (slice : Slice) → IsGrown mid new → IsSlice by v mid mask slice → IsSlice by v new mask slice
+slice_grown : (by : List ℕ) (v : Vector) (mid new : Entries) (mask : List Bool) (slice : Slice) → IsGrown mid new → IsSlice by v mid mask slice → IsSlice by v new mask slice
 slice_grown by v mid new mask slice grown h = record { key = h.key; end = h.end; placed = grown.kept h.key slice.place h.placed; rows = h.rows }
 
-parted_grown : (by : List ℕ) (v : Vector) (mid new : BTreeMap Cells ℕ) (mask left : List Bool) (slices : List Slice) → IsGrown mid new → AreParted by v mid mask slices left → AreParted by v new mask slices left
+parted_grown : (by : List ℕ) (v : Vector) (mid new : Entries) (mask left : List Bool) (slices : List Slice) → IsGrown mid new → AreParted by v mid mask slices left → AreParted by v new mask slices left
 parted_grown by v mid new mask left [] grown h = h
 parted_grown by v mid new mask left (s ∷ ss) grown h = (slice_grown by v mid new mask s grown h.0, parted_grown by v mid new (rows_outside mask s) left ss grown h.1)
 
-parted_push : (by : List ℕ) (v : Vector) (new : BTreeMap Cells ℕ) (mask left : List Bool) (slices : List Slice) (slice : Slice) → IsSlice by v new left slice → AreParted by v new mask slices left → AreParted by v new mask (slices ++ slice ∷ []) (rows_outside left slice)
+parted_push : (by : List ℕ) (v : Vector) (new : Entries) (mask left : List Bool) (slices : List Slice) (slice : Slice) → IsSlice by v new left slice → AreParted by v new mask slices left → AreParted by v new mask (slices ++ slice ∷ []) (rows_outside left slice)
 parted_push by v new mask left [] slice one h = (subst (λ (m : List Bool). IsSlice by v new m slice) (sym h) one, ap (λ m. rows_outside m slice) h)
 parted_push by v new mask left (s ∷ ss) slice one h = (h.0, parted_push by v new (rows_outside mask s) left ss slice one h.1)
 
 -- the rows that are left are rows of the mask
-pub left_within : (by : List ℕ) (v : Vector) (index : BTreeMap Cells ℕ) (mask left : List Bool) (slices : List Slice) → AreParted by v index mask slices left → (n : ℕ) → n < 1024 → has left n ≡ true → has mask n ≡ true
+pub left_within : (by : List ℕ) (v : Vector) (index : Entries) (mask left : List Bool) (slices : List Slice) → AreParted by v index mask slices left → (n : ℕ) → n < 1024 → has left n ≡ true → has mask n ≡ true
 left_within by v index mask left [] h n l on = ap (λ m. has m n) h ∙ on
 left_within by v index mask left (s ∷ ss) h n l on =
     (and_parts (has mask n) (not (has s.rows n)) (sym (has-rows_of (λ k. has mask k && not (has s.rows k)) n l) ∙ left_within by v index (rows_outside mask s) left ss h.1 n l on)).0
 
-pub sliced_none : (by : List ℕ) (v : Vector) (mask : List Bool) (m : BTreeMap Cells ℕ) (slices : List Slice) → slices ≡ [] → AreSliced by v mask mask m m slices
+pub sliced_none : (by : List ℕ) (v : Vector) (mask : List Bool) (m : Entries) (slices : List Slice) → slices ≡ [] → AreSliced by v mask mask m m slices
 sliced_none by v mask m slices e = subst (AreSliced by v mask mask m m) (sym e) (record { grown = grown_same m; parted = refl; occurs = λ q. refl })
 
-pub sliced_more : (by : List ℕ) (v : Vector) (mask left next : List Bool) (old mid new : BTreeMap Cells ℕ) (slices after : List Slice) (slice : Slice) (key : Cells) (row end : ℕ) → AreSliced by v mask left old mid slices → row < 1024 → has left row ≡ true → key ≡ key_of by (row_at v row) → IsTakenIn key slice.place mid new
+pub sliced_more : (by : List ℕ) (v : Vector) (mask left next : List Bool) (old mid new : Entries) (slices after : List Slice) (slice : Slice) (key : Cells) (row end : ℕ) → AreSliced by v mask left old mid slices → row < 1024 → has left row ≡ true → key ≡ key_of by (row_at v row) → IsTakenIn key slice.place mid new
     → ((n : ℕ) → n < 1024 → has slice.rows n ≡ (has left n && (ltb n end && same_cells key (key_of by (row_at v n))))) → next ≡ rows_outside left slice → after ≡ slices ++ slice ∷ [] → AreSliced by v mask next old new after
 sliced_more by v mask left next old mid new slices after slice key row end h l on is t rows e f =
     let one : IsSlice by v new left slice = record { key = key; end = end; placed = t.now; rows = rows } in
@@ -305,8 +305,8 @@ sliced_more by v mask left next old mid new slices after slice key row end h l o
       grown = grown_more old mid new h.grown t.grown;
       parted = parted_push by v new mask left slices slice one (parted_grown by v mid new mask left slices t.grown h.parted);
       occurs = λ q.
-          ap (λ b. b || occurs_in by v q (rows_outside left slice)) (t.occurs q) ∙ or_assoc (is_some (get key_cmp mid q)) (same_cells q key) (occurs_in by v q (rows_outside left slice))
-          ∙ ap (λ b. is_some (get key_cmp mid q) || b) (occurs_parted by v new left slice one q row l on is) ∙ h.occurs q;
+          ap (λ b. b || occurs_in by v q (rows_outside left slice)) (t.occurs q) ∙ or_assoc (is_some (place_in mid q)) (same_cells q key) (occurs_in by v q (rows_outside left slice))
+          ∙ ap (λ b. is_some (place_in mid q) || b) (occurs_parted by v new left slice one q row l on is) ∙ h.occurs q;
     }))
 
 -- ---- the spans and slices, and then the rows that are left
@@ -316,16 +316,16 @@ spans_alone mask spans slices e = sym (ap (λ xs. slices_of_spans mask spans ++ 
 pub slices_alone : (mask : List Bool) (spans : List Span) (slices : List Slice) → spans ≡ [] → slices ≡ slices_of_spans mask spans ++ slices
 slices_alone mask spans slices e = sym (ap (λ xs. slices_of_spans mask xs ++ slices) e)
 
-pub split_all : (by : List ℕ) (v : Vector) (mask : List Bool) (old mid new : BTreeMap Cells ℕ) (split : Split) → AreSliced by v mask split.left old mid (slices_of split) → ArePlaced 1024 by v split.left mid new split.places → IsSplit by v mask old new split
+pub split_all : (by : List ℕ) (v : Vector) (mask : List Bool) (old mid new : Entries) (split : Split) → AreSliced by v mask split.left old mid (slices_of split) → ArePlaced 1024 by v split.left mid new split.places → IsSplit by v mask old new split
 split_all by v mask old mid new split h p = record {
   grown = grown_more old mid new h.grown p.grown;
   parted = parted_grown by v mid new mask split.left (slices_of split) p.grown h.parted;
   placed = p.placed;
-  occurs = λ q. p.occurs q ∙ ap (λ rows. is_some (get key_cmp mid q) || list_any (same_cells q) (map (key_of by) rows)) (below_all 1024 v split.left refl) ∙ h.occurs q;
+  occurs = λ q. p.occurs q ∙ ap (λ rows. is_some (place_in mid q) || list_any (same_cells q) (map (key_of by) rows)) (below_all 1024 v split.left refl) ∙ h.occurs q;
 }
 
 -- no row is left
-pub split_whole : (by : List ℕ) (v : Vector) (mask : List Bool) (old new : BTreeMap Cells ℕ) (split : Split) → AreSliced by v mask split.left old new (slices_of split) → ((n : ℕ) → n < 1024 → has split.left n ≡ false) → IsSplit by v mask old new split
+pub split_whole : (by : List ℕ) (v : Vector) (mask : List Bool) (old new : Entries) (split : Split) → AreSliced by v mask split.left old new (slices_of split) → ((n : ℕ) → n < 1024 → has split.left n ≡ false) → IsSplit by v mask old new split
 split_whole by v mask old new split h none = split_all by v mask old new new split h (placed_nowhere 1024 by v split.left new split.places none)
 
 -- a split that isn't by codes owes nothing of them
@@ -337,7 +337,7 @@ not_by_code split off = record {
 }
 
 -- the rows with a key's place are those with the key
-pub shared_with : (by : List ℕ) (v : Vector) (index : BTreeMap Cells ℕ) (places : List ℕ) (left : List Bool) (q : Cells) (g : ℕ) → ((key other : Cells) (place : ℕ) → get key_cmp index key ≡ Some place → get key_cmp index other ≡ Some place → key ≡ other) → get key_cmp index q ≡ Some g
+pub shared_with : (by : List ℕ) (v : Vector) (index : Entries) (places : List ℕ) (left : List Bool) (q : Cells) (g : ℕ) → ((key other : Cells) (place : ℕ) → place_in index key ≡ Some place → place_in index other ≡ Some place → key ≡ other) → place_in index q ≡ Some g
     → rows_placed 1024 v left places g ≡ rows_with by (rows_at v left) q → (mask : List Bool) (slices : List Slice) → AreParted by v index mask slices left → rows_sliced v slices g ++ rows_placed 1024 v left places g ≡ rows_with by (rows_at v mask) q
 shared_with by v index places left q g apart is last mask [] h = last ∙ ap (λ m. rows_with by (rows_at v m) q) (sym h)
 shared_with by v index places left q g apart is last mask (s ∷ ss) h = by_test (shared_with by v index places left q g apart is last (rows_outside mask s) ss h.1) (same_cells q h.0.key) refl
@@ -353,7 +353,7 @@ shared_with by v index places left q g apart is last mask (s ∷ ss) h = by_test
 
     by_test : rest ≡ rows_with by (rows_at v (rows_outside mask s)) q → (b : Bool) → same_cells q h.0.key ≡ b → (cond (s.place == g) (rows_at v s.rows) [] ++ rows_sliced v ss g) ++ rows_placed 1024 v left places g ≡ rows_with by (rows_at v mask) q
     by_test further true e =
-        let here : (s.place == g) ≡ true = (Decides-eqb s.place g).1 (same_Some _ _ (sym h.0.placed ∙ ap (get key_cmp index) (sym (one_row q h.0.key e)) ∙ is)) in
+        let here : (s.place == g) ≡ true = (Decides-eqb s.place g).1 (same_Some _ _ (sym h.0.placed ∙ ap (place_in index) (sym (one_row q h.0.key e)) ∙ is)) in
         append_assoc (cond (s.place == g) (rows_at v s.rows) []) (rows_sliced v ss g) (rows_placed 1024 v left places g)
         ∙ ap (λ b. cond b (rows_at v s.rows) [] ++ rest) here
         ∙ ap (λ l. rows_at v s.rows ++ l) further ∙ rows_same by v index mask s h.0 q e

@@ -1,6 +1,6 @@
 -- Spans of a vector's rows: rows with one key that stand together. With the spans so far, the rows of a mask from the last one's end on are left.
 use Rattle.std.proofs.Common.{◌≡◌, ℕ, zero, suc, ◌+◌, ◌-◌, ◌<◌, ◌≤◌, ◌⊎◌, inl, inr, ltb, leb, Bool, true, false, cond, not, ◌&&◌, List, [], ◌∷◌, ◌++◌, length, refl, sym, ap, subst, ◌∙◌, arith}
-use Rattle.std.specs.BTreeMap.{BTreeMap}
+use Rattle.query_eval.specs.Entries.{Entries}
 use Rattle.std.proofs.Math.Bool.{and-false, and-true}
 use Rattle.std.proofs.lemmas.Bool.{cases_lt, false≢true, le-leb, le-ltb, lt-leb, lt-ltb}
 use Rattle.std.proofs.lemmas.List.{map-append}
@@ -51,7 +51,7 @@ from_cut mask start = rows_of-like (λ n. cond (leb 0 n && ltb n start) false (h
     one n (inr a) = ap (λ b. cond b false (has mask n)) (le-ltb n start a) ∙ sym (ap (λ b. has mask n && b) (le-leb start n a) ∙ and-true (has mask n))
 
 -- ---- no span yet, and one more
-pub spanned_none : (by : List ℕ) (v : Vector) (mask : List Bool) (m : BTreeMap Cells ℕ) (spans : List Span) → length mask ≡ 1024 → spans ≡ [] → AreSliced by v mask (rows_from mask 0) m m (slices_of_spans mask spans)
+pub spanned_none : (by : List ℕ) (v : Vector) (mask : List Bool) (m : Entries) (spans : List Span) → length mask ≡ 1024 → spans ≡ [] → AreSliced by v mask (rows_from mask 0) m m (slices_of_spans mask spans)
 spanned_none by v mask m spans long e = subst (λ (left : List Bool). AreSliced by v mask left m m (slices_of_spans mask spans)) (from_first mask long) (sliced_none by v mask m (slices_of_spans mask spans) (ap (slices_of_spans mask) e))
 
 rows_before : (m f e s k : Bool) → f ≡ false → (m && s) ≡ false → (m && (f && e)) ≡ ((m && s) && (e && k))
@@ -120,7 +120,7 @@ module _ (by : List ℕ) (v : Vector) (mask : List Bool) (start first end : ℕ)
       one n (inr a) (inl b) = left_inside (has mask n) (leb first n) (ltb n end) (leb start n) (leb end n) (le-leb first n a) (lt-ltb n end b) (le-leb start n (omega (arith, low, a))) (lt-leb end n b)
       one n (inr a) (inr b) = left_after (has mask n) (leb first n) (ltb n end) (leb start n) (leb end n) (le-ltb n end b) (le-leb start n (omega (arith, low, a))) (le-leb end n b)
 
-  pub spanned_more : (old mid new : BTreeMap Cells ℕ) (spans after : List Span) (place : ℕ) → end ≤ 1024 → has mask first ≡ true → AreSliced by v mask (rows_from mask start) old mid (slices_of_spans mask spans) → IsTakenIn key place mid new → after ≡ spans ++ (record { place = place; first = first; end = end }) ∷ [] → AreSliced by v mask (rows_from mask end) old new (slices_of_spans mask after)
+  pub spanned_more : (old mid new : Entries) (spans after : List Span) (place : ℕ) → end ≤ 1024 → has mask first ≡ true → AreSliced by v mask (rows_from mask start) old mid (slices_of_spans mask spans) → IsTakenIn key place mid new → after ≡ spans ++ (record { place = place; first = first; end = end }) ∷ [] → AreSliced by v mask (rows_from mask end) old new (slices_of_spans mask after)
   spanned_more old mid new spans after place most on h t e =
       let span : Span = record { place = place; first = first; end = end } in
       let slice : Slice = span_slice mask span in

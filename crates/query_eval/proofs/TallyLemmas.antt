@@ -50,14 +50,15 @@ told_more s t z count sum values told few small =
       sum = sum fits ∙ ap (λ x. x +ℤ z) now.sum ∙ sym whole_sum;
     }
 
-pub told_where : (s t : Sums) (z more : ℤ) (by : ℕ) (comes : Bool) → by ≡ from_bool comes → more ≡ cond comes z (pos 0) → t.count ≡ min (s.count + by) (2 ^ 64 - 1) → (FitsSigned w128 (s.sum +ℤ more) → t.sum ≡ s.sum +ℤ more) → FitsSigned w128 s.sum → (values : List ℤ) → AreTold values s → length (values ++ cond comes (z ∷ []) []) ≤ state_row_limit → AreSmall (values ++ cond comes (z ∷ []) []) → AreSums (values ++ cond comes (z ∷ []) []) t
-told_where s t z more by true one is count sum held values told few small =
+pub told_where : (s t : Sums) (z more : ℤ) (by : ℕ) (comes : Bool) → by ≡ from_bool comes → more ≡ cond comes z (pos 0) → t.count ≡ min (s.count + by) (2 ^ 64 - 1) → (FitsSigned w128 (s.sum +ℤ more) → t.sum ≡ s.sum +ℤ more) → (values : List ℤ) → AreTold values s → length (values ++ cond comes (z ∷ []) []) ≤ state_row_limit → AreSmall (values ++ cond comes (z ∷ []) []) → AreSums (values ++ cond comes (z ∷ []) []) t
+told_where s t z more by true one is count sum values told few small =
     told_more s t z (count ∙ ap (λ n. min (s.count + n) (2 ^ 64 - 1)) one) (subst (λ (x : ℤ). FitsSigned w128 (s.sum +ℤ x) → t.sum ≡ s.sum +ℤ x) is sum) values told few small
-told_where s t z more by false one is count sum held values told few small =
+told_where s t z more by false one is count sum values told few small =
     let e : values ++ [] ≡ values = append-nil values in
     let none : by ≡ 0 = one in
     let now = told (subst (λ (l : List ℤ). length l ≤ state_row_limit) e few) (subst AreSmall e small) in
     let same : s.sum +ℤ more ≡ s.sum = omega (arith, ints, is) in
+    let held : FitsSigned w128 s.sum = subst (FitsSigned w128) (ap total e ∙ sym now.sum) (total-fits (values ++ []) few small) in
     record {
       count = omega (arith, count, none, now.count, ap length e, few);
       sum = sum (subst (FitsSigned w128) (sym same) held) ∙ same ∙ now.sum ∙ ap total (sym e);

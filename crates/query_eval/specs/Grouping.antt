@@ -1,10 +1,10 @@
 -- Groups under way: for each list of keys that came, the tallies of the rows that have it.
 use Rattle.std.specs.Prelude.{◌≡◌, ℕ, ◌+◌, ◌<◌, ◌≤◌, ◌++◌, Bool, not, cond, List, [], ◌∷◌, map, length, slice_index_or, sum_by, Option, Some, None, ℤ, pos}
 use Rattle.std.specs.List.{list_any}
-use Rattle.std.specs.BTreeMap.{BTreeMap, get}
+use Rattle.query_eval.specs.Entries.{Entries, place_in}
 use Rattle.std.specs.Option.{is_some}
 use Rattle.std.specs.Global.{Vec}
-use Rattle.table_model.specs.Group.{cell, key_cmp, key_of, rows_with, values_in}
+use Rattle.table_model.specs.Group.{cell, key_of, rows_with, values_in}
 use Rattle.table_model.specs.State.{Cells, same_cells}
 use Rattle.query_eval.specs.Finished.{PlanShape}
 use Rattle.query_eval.specs.Places.{IsIndex, rows_placed}
@@ -75,11 +75,11 @@ pub record AreHeld (rows : List Cells) (aggregates : List Aggregate) (tallies : 
   pub each : (i : ℕ) (a : Aggregate) (column : Vec Tally) (t : Tally) → i < length aggregates → IsHeld rows (slice_index_or aggregates i a) (slice_index_or (slice_index_or tallies i column).items place t)
 
 -- the groups of some rows: each list of keys that occurs has a place with the tallies of its rows, and no other has one
-pub record AreGroups (by : List ℕ) (aggregates : List Aggregate) (rows : List Cells) (index : BTreeMap Cells ℕ) (tallies : List (Vec Tally)) : Type 0 where
+pub record AreGroups (by : List ℕ) (aggregates : List Aggregate) (rows : List Cells) (index : Entries) (tallies : List (Vec Tally)) : Type 0 where
   pub size : length tallies ≡ length aggregates
-  pub columns : (i : ℕ) (column : Vec Tally) → i < length aggregates → length (slice_index_or tallies i column).items ≡ length index.entries
-  pub held : (key : Cells) (place : ℕ) → get key_cmp index key ≡ Some place → AreHeld (rows_with by rows key) aggregates tallies place
-  pub occurs : (key : Cells) → is_some (get key_cmp index key) ≡ list_any (same_cells key) (map (key_of by) rows)
+  pub columns : (i : ℕ) (column : Vec Tally) → i < length aggregates → length (slice_index_or tallies i column).items ≡ length index
+  pub held : (key : Cells) (place : ℕ) → place_in index key ≡ Some place → AreHeld (rows_with by rows key) aggregates tallies place
+  pub occurs : (key : Cells) → is_some (place_in index key) ≡ list_any (same_cells key) (map (key_of by) rows)
 
 -- the same of a query's groups under way
 abbrev pub AreGroupsOf : PlanShape → List Cells → Groups → Type 0

@@ -10,7 +10,10 @@ pub mod Aggregate
 pub mod Finished
 pub mod Kept
 pub mod Cell
+pub mod Entries
 pub mod Tied
+pub mod Words
+pub mod Seen
 pub mod Tally
 pub mod TallyKinds
 pub mod QueryMentions

@@ -1,10 +1,10 @@
 -- Slices of a vector: rows with one key, and the place of its group.
 use Rattle.std.specs.Prelude.{◌≡◌, ℕ, zero, suc, ◌==◌, ◌+◌, ◌*◌, ◌^◌, ◌<◌, Bool, true, false, not, nat_le, nat_lt, ◌&&◌, ◌||◌, cond, List, [], ◌∷◌, ◌++◌, length, map, slice_index_or, Option, Some, None, ℤ, pos, ◌+ℤ◌}
 use Rattle.std.specs.List.{list_any, range_with_len}
-use Rattle.std.specs.BTreeMap.{BTreeMap, get}
+use Rattle.query_eval.specs.Entries.{Entries, place_in}
 use Rattle.std.specs.Option.{is_some}
 use Rattle.std.specs.Ordering.{int_eq}
-use Rattle.table_model.specs.Group.{key_cmp, key_of}
+use Rattle.table_model.specs.Group.{key_of}
 use Rattle.table_model.specs.State.{Cells, same_cells}
 use Rattle.table_model.specs.Values.{present, total}
 use Rattle.transpose_order.specs.Mask.{has, rows_of}
@@ -51,10 +51,10 @@ abbrev pub AreShort : List ℤ → Type 0
 AreShort values = (n : ℕ) → n < 1024 → IsShort (slice_index_or values n (pos 0))
 
 -- a slice has the rows of a mask with one key below an end, and that key's place
-pub record IsSlice (by : List ℕ) (v : Vector) (index : BTreeMap Cells ℕ) (mask : List Bool) (slice : Slice) : Type 0 where
+pub record IsSlice (by : List ℕ) (v : Vector) (index : Entries) (mask : List Bool) (slice : Slice) : Type 0 where
   pub key : Cells
   pub end : ℕ
-  pub placed : get key_cmp index key ≡ Some slice.place
+  pub placed : place_in index key ≡ Some slice.place
   pub rows : (n : ℕ) → n < 1024 → has slice.rows n ≡ (has mask n && (nat_lt n end && same_cells key (key_of by (row_at v n))))
 
 -- the rows of a mask that aren't in a slice
@@ -62,7 +62,7 @@ abbrev pub rows_outside : List Bool → Slice → List Bool
 rows_outside mask slice = rows_of (λ n. has mask n && not (has slice.rows n))
 
 -- slices part the rows of a mask: each has those with its key, below its end, of the rows in none before it, and the rows in none are left
-abbrev pub AreParted : List ℕ → Vector → BTreeMap Cells ℕ → List Bool → List Slice → List Bool → Type 0
+abbrev pub AreParted : List ℕ → Vector → Entries → List Bool → List Slice → List Bool → Type 0
 AreParted by v index mask [] left = mask ≡ left
 AreParted by v index mask (slice ∷ slices) left = IsSlice by v index mask slice × AreParted by v index (rows_outside mask slice) slices left
 
@@ -71,10 +71,10 @@ abbrev pub occurs_in : List ℕ → Vector → Cells → List Bool → Bool
 occurs_in by v key mask = list_any (same_cells key) (map (key_of by) (rows_at v mask))
 
 -- slices part the rows of a mask, and no other key comes than those of rows that aren't left
-pub record AreSliced (by : List ℕ) (v : Vector) (mask left : List Bool) (old new : BTreeMap Cells ℕ) (slices : List Slice) : Type 0 where
+pub record AreSliced (by : List ℕ) (v : Vector) (mask left : List Bool) (old new : Entries) (slices : List Slice) : Type 0 where
   pub grown : IsGrown old new
   pub parted : AreParted by v new mask slices left
-  pub occurs : (key : Cells) → (is_some (get key_cmp new key) || occurs_in by v key left) ≡ (is_some (get key_cmp old key) || occurs_in by v key mask)
+  pub occurs : (key : Cells) → (is_some (place_in new key) || occurs_in by v key left) ≡ (is_some (place_in old key) || occurs_in by v key mask)
 
 -- the rows of a mask from a first one up to an end
 abbrev pub rows_between : List Bool → ℕ → ℕ → List Bool
@@ -107,11 +107,11 @@ pub record AreByCode (split : Split) : Type 0 where
   pub rows : split.coded ≡ true → (i n : ℕ) (slice : Slice) → i < length split.slices.items → n < 1024 → IsCoded split.kept split.codes n (slice_index_or split.slices.items i slice)
 
 -- the rows of a mask are split by their keys: those in spans and slices, and those left, each with its key's place; and no other key comes
-pub record IsSplit (by : List ℕ) (v : Vector) (mask : List Bool) (old new : BTreeMap Cells ℕ) (split : Split) : Type 0 where
+pub record IsSplit (by : List ℕ) (v : Vector) (mask : List Bool) (old new : Entries) (split : Split) : Type 0 where
   pub grown : IsGrown old new
   pub parted : AreParted by v new mask (slices_of split) split.left
-  pub placed : (n : ℕ) → n < 1024 → has split.left n ≡ true → get key_cmp new (key_of by (row_at v n)) ≡ Some (slice_index_or split.places n 0)
-  pub occurs : (key : Cells) → is_some (get key_cmp new key) ≡ (is_some (get key_cmp old key) || occurs_in by v key mask)
+  pub placed : (n : ℕ) → n < 1024 → has split.left n ≡ true → place_in new (key_of by (row_at v n)) ≡ Some (slice_index_or split.places n 0)
+  pub occurs : (key : Cells) → is_some (place_in new key) ≡ (is_some (place_in old key) || occurs_in by v key mask)
 
 -- the rows of the slices with a place, slice by slice
 abbrev pub rows_sliced : Vector → List Slice → ℕ → List Cells

@@ -1,10 +1,11 @@
 -- What a query asks of its rows, taken in so far.
 use Rattle.std.specs.Prelude.{◌≡◌, ℕ, ◌+◌, ◌<◌, ◌≤◌, ◌++◌, List, [], Option, length, slice_index_or}
-use Rattle.std.specs.BTreeMap.{BTreeMap, keys}
+use Rattle.std.specs.Map.{keys_of}
 use Rattle.std.specs.Global.{Vec}
 use Rattle.table_model.specs.Formula.{Formula}
 use Rattle.table_model.specs.State.{Cells}
 use Rattle.table_model.specs.Table.{Table}
+use Rattle.query_eval.specs.Entries.{Entries}
 use Rattle.query_eval.specs.Finished.{GroupFields, PlanShape, finished_by, finished_keys}
 use Rattle.query_eval.specs.Grouping.{AreGroups, AreGroupsOf, IsHeld, plan_mentions}
 use Rattle.query_eval.specs.Kept.{AreFew, where_mentions}
@@ -37,9 +38,9 @@ TakesIn plan more old new = (rows : List Cells) → AreTaken plan rows old → A
 abbrev pub all_mentions : Option Formula → PlanShape → ℕ
 all_mentions condition plan = where_mentions condition + plan_mentions plan
 
--- the groups under way of some rows are finished, in order of their keys, whatever rows they are of
-abbrev pub AreFinished : List Aggregate → BTreeMap Cells ℕ → List (Vec Tally) → List GroupFields → Type 0
-AreFinished aggregates index tallies finished = (table : Table) (by : List ℕ) (rows : List Cells) → AreFew table rows → AreGroups by aggregates rows index tallies → finished ≡ finished_keys aggregates by rows (keys index)
+-- the groups under way of some rows are finished, in the order of their entries, whatever rows they are of
+abbrev pub AreFinished : List Aggregate → Entries → List (Vec Tally) → List GroupFields → Type 0
+AreFinished aggregates entries tallies finished = (table : Table) (by : List ℕ) (rows : List Cells) → AreFew table rows → AreGroups by aggregates rows entries tallies → finished ≡ finished_keys aggregates by rows (keys_of entries)
 
 -- the same of a query with GROUP BY
 abbrev pub AreAllFinished : PlanShape → Groups → List GroupFields → Type 0

@@ -10,6 +10,6 @@ mod tallies;
 pub use answer_formats::{text, write_answer};
 pub use answers::{Taken, answer, answer_of_groups, take_rows};
 pub use columns::{Columns, VectorId};
-pub use filter::{Decoded, KeptVector, Pair, kept_mask, matching};
+pub use filter::{KeptVector, kept_mask, matching};
 pub use grouping::{Cell, Key};
-pub use tallies::{Aggregate, FinishedGroup, Groups, Plan, Sums, Tally, values_field};
+pub use tallies::{Aggregate, FinishedGroup, Groups, Plan, Seen, Sums, Tally, values_field};

@@ -2,21 +2,18 @@
 use Rattle.std.specs.Prelude.{◌≡◌, ◌≢◌, ◌⊎◌, ℕ, Bool, true, false, cond, List, Option, Some, None, Result, Ok, Err, IsTrue, IsOk, IfErr, OnOk}
 use Rattle.std.proofs.Common.{refl, sym, ap, subst, ◌∙◌, inl, inr}
 use Rattle.std.specs.Io.KnownBytes.{Appends}
-use Rattle.table_model.specs.Counted.{one_more}
 use Rattle.table_model.specs.Faults.{AppendsFront, CountsReads, CountsWrites, CountsBoth}
 use Rattle.table_model.specs.Identifier.{same_text}
 use Rattle.table_model.specs.Outcome.{Gives}
 use Rattle.table_model.specs.Reading.{◌>>=◌}
-use Rattle.table_model.specs.State.{State, empty_state}
-use Rattle.table_model.specs.Table.{Table, same_table}
+use Rattle.table_model.specs.State.{empty_state}
+use Rattle.table_model.specs.Table.{Table}
 use Rattle.table_model.specs.declared.refusal.Refusal.{Refusal}
-use Rattle.table_model.specs.declared.refusal.Refusal.TheVariants.{Memory, ReadFault, WriteFault, NotCanonical, SchemaDiffers}
+use Rattle.table_model.specs.declared.refusal.Refusal.TheVariants.{Memory, ReadFault, WriteFault, NotCanonical}
 use Rattle.table_model.proofs.SameTable.{one_text}
-use Rattle.segment_core.specs.Format.{Writes}
-use Rattle.replica_store.specs.Exchange.{OfferForm, SummaryForm, offering, offered, unlisted_state}
+use Rattle.replica_store.specs.Exchange.{OfferForm, offering}
 use Rattle.replica_store.specs.Replica.{Replica, new_replica}
-use Rattle.column_file.specs.Files.{canonical_file, canonical_read, judged, offer_read, opened_from, offer_bytes, first_difference, Exports, OpensTo}
-use Rattle.column_file.specs.SummaryBytes.{summary_bytes}
+use Rattle.column_file.specs.Files.{canonical_file, canonical_read, judged, offer_read, first_difference, Exports, OpensTo}
 use Rattle.column_file.specs.Input.{Judges, IsUnread, is_refusal_of_reading}
 use Rattle.replica_files.specs.Commands.{held_in, file_of, as_held, Made, file_made, WritesFront, Refuses, Leaves, Changes, Makes, Puts, CreatesOf}
 

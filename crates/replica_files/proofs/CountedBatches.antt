@@ -14,11 +14,10 @@ use Rattle.table_model.specs.declared.names.BatchName.{BatchName}
 use Rattle.table_model.specs.declared.names.RowName.{RowName}
 use Rattle.transpose_order.specs.Mask.{count_below}
 use Rattle.answer_formats.specs.declared.format.ReportForm.{ReportForm}
+use Rattle.replica_store.specs.Forgets.{batches_of, row_count}
 use Rattle.replica_files.specs.declared.batch_counts.BatchCounts.{BatchCounts}
 use Rattle.replica_files.specs.Counts.{is_live_at, live_rows_of, counted, batch_counts, batch_line}
 use Rattle.replica_files.proofs.BatchCounting.{live_counted}
-use Rattle.replica_files.specs.Forgetting.{batches_of}
-use Rattle.replica_files.specs.Loads.{row_count}
 
 abbrev Entry : Type 0
 Entry = BatchName × Batch

@@ -1,16 +1,15 @@
 -- A text is loaded batch by batch: what is still to come are the rows after the full batches that were loaded.
-use Rattle.std.specs.Prelude.{◌≡◌, ◌⊎◌, ℕ, ◌<◌, ◌≤◌, Bool, true, false, List, [], ◌∷◌, ◌++◌, length, Option, Some, None, Result, Ok, Err}
-use Rattle.std.proofs.Common.{refl, sym, ap, subst, ◌∙◌, arith, append_assoc}
+use Rattle.std.specs.Prelude.{◌≡◌, ℕ, List, [], ◌∷◌, ◌++◌, length, Option, Some, None, Result, Ok, Err}
+use Rattle.std.proofs.Common.{refl, sym, ap, subst, ◌∙◌, append_assoc}
 use Rattle.std.proofs.lemmas.List.{append-nil}
 use Rattle.table_model.specs.State.{Batch}
 use Rattle.table_model.specs.Table.{row_limit}
-use Rattle.table_model.specs.declared.refusal.Refusal.{Refusal}
 use Rattle.csv_rows.specs.CsvText.{before_rows}
 use Rattle.csv_rows.specs.Reading.{Reading, to_come, AsKnown, Gave, NothingToCome, Refuses}
 use Rattle.csv_rows.specs.declared.error.CsvError.{CsvError}
 use Rattle.csv_rows.specs.declared.error.CsvError.TheVariants.{Refused, BadCsv, LineTooLong}
 use Rattle.replica_files.specs.Loads.{LoadForm}
-use Rattle.replica_files.specs.CsvLoads.{AreFull, rows_of, last_batch, AreCut, with_batches, LoadsRows, RefusesText, IsNotAdded}
+use Rattle.replica_files.specs.CsvLoads.{AreFull, rows_of, last_batch, with_batches, LoadsRows, RefusesText, IsNotAdded}
 
 -- full batches were loaded, and the rest of the text is to come
 pub record LoadedSoFar (start now : Reading) (before after : Option (List ℕ)) (old new : LoadForm) : Type 0 where

@@ -1,6 +1,6 @@
 -- What a dump wrote are the lines of the live rows, which are rows of the table, so it is read as these; and batches under consecutive
 -- names, none of whose rows is deleted, have their rows as live rows, one batch after another.
-use Rattle.std.specs.Prelude.{◌≡◌, ℕ, suc, ◌+◌, ◌<◌, Bool, true, false, T, cond, not, ◌&&◌, ◌==◌, filter, List, [], ◌∷◌, ◌++◌, map as each, Result, Ok, Err}
+use Rattle.std.specs.Prelude.{◌≡◌, ℕ, suc, ◌+◌, Bool, true, false, T, cond, not, filter, List, [], ◌∷◌, ◌++◌, Result, Ok}
 use Rattle.std.proofs.Common.{refl, sym, ap, subst, ◌∙◌, append_assoc}
 use Rattle.std.proofs.lemmas.List.{append-nil}
 use Rattle.std.specs.FinMap as map
@@ -8,13 +8,11 @@ use Rattle.std.specs.FinSet as set
 use Rattle.std.specs.List.{flat_map}
 use Rattle.table_model.specs.Name.{name_cmp, row_name_cmp}
 use Rattle.table_model.specs.Operation.{Operation, AreAgreeing, state_of}
-use Rattle.table_model.specs.Reading.{◌>>=◌}
 use Rattle.table_model.specs.State.{State, Batch, Cells, named_from, named_rows, live_rows}
 use Rattle.table_model.specs.Table.{Table, ColumnShape, AreRows}
 use Rattle.table_model.specs.declared.names.BatchName.{BatchName}
 use Rattle.table_model.specs.declared.names.RowName.{RowName}
-use Rattle.table_model.specs.declared.refusal.Refusal.{Refusal}
-use Rattle.table_model.proofs.NameOrder.{names_total, row_names_total}
+use Rattle.table_model.proofs.NameOrder.{names_total}
 use Rattle.table_model.proofs.Joins.{same_maps}
 use Rattle.replica_store.specs.Replica.{Replica, AllFit, merged}
 use Rattle.column_file.specs.Files.{HasFile}

@@ -1,21 +1,17 @@
 -- What the query of a column's figures answers.
-use Rattle.std.proofs.Common.{◌≡◌, ◌∙◌, ℕ, zero, suc, ◌+◌, ◌<◌, ◌≤◌, Bool, true, false, cond, not, ◌&&◌, ◌||◌, List, [], ◌∷◌, length, filter, map as each, Option, Some, None, Ok, Err, refl, sym, ap, arith}
-use Rattle.std.specs.Prelude.{count_by, slice_get, nat_le, is_none, ℤ, pos, ◌-ℤ◌, FitsSigned}
+use Rattle.std.proofs.Common.{◌≡◌, ◌∙◌, ℕ, zero, suc, ◌+◌, Bool, true, false, cond, not, ◌&&◌, ◌||◌, List, [], ◌∷◌, length, filter, map as each, Option, Some, None, Ok, Err, refl, sym, ap, arith}
+use Rattle.std.specs.Prelude.{slice_get, nat_le, is_none, ℤ, pos, ◌-ℤ◌, FitsSigned}
 use Rattle.std.specs.Int.{w128}
 use Rattle.std.specs.List.{list_any, list_all, position_or_len, cons_option}
 use Rattle.std.proofs.lemmas.Bool.{and_parts}
 use Rattle.std.proofs.lemmas.Int.{ints}
 use mir.Val.{to_z, of_z}
 use Rattle.std.proofs.lemmas.List.Sums.{sum_by-cons}
-use Rattle.table_model.specs.Answer.{whole}
 use Rattle.table_model.specs.Group.{cell, groups_of, values_in}
 use Rattle.table_model.specs.Identifier.{is_identifier, same_text, folded}
 use Rattle.table_model.specs.Meaning.{answer_of, answer_over, groups_having, rows_where, place_of}
 use Rattle.table_model.specs.State.{State, Cells}
 use Rattle.table_model.specs.Table.{Table, ColumnShape, IsTable, column_limit, has_name, are_distinct, name_of, asked_of, is_named, is_schema, folded_table}
-use Rattle.table_model.specs.Values.{least, greatest}
-use Rattle.table_model.specs.declared.answer.Field.{Field}
-use Rattle.table_model.specs.declared.answer.Field.TheVariants.{Whole}
 use Rattle.table_model.specs.declared.refusal.Refusal.TheVariants.{BadSchema}
 use Rattle.table_model.proofs.SameTable.{one_text, itself_text}
 use Rattle.replica_files.specs.ColumnFigures.{live_cells, nulls_in, figure_fields, figure_query}

@@ -1,13 +1,13 @@
 -- Each command adds to what its file holds, since what it makes is the state of more operations; and a state has one file.
-use Rattle.std.specs.Prelude.{◌≡◌, ℕ, ◌-◌, Bool, true, false, cond, ◌==◌, nat_le, List, [], ◌∷◌, ◌++◌, length, Option, Some, None, Result, Ok, Err}
+use Rattle.std.specs.Prelude.{◌≡◌, ℕ, ◌-◌, true, false, cond, List, [], ◌∷◌, ◌++◌, length, Result, Ok, Err}
 use Rattle.std.proofs.Common.{refl, sym, ap, subst, ◌∙◌, append_assoc, arith}
 use Rattle.std.specs.FinMap as map
 use Rattle.std.specs.FinSet as set
 use Rattle.std.specs.List.{All}
 use Rattle.std.proofs.lemmas.List.{nil_from_length}
 use Rattle.std.proofs.lemmas.List.Elements.{All-nil}
-use Rattle.table_model.specs.Name.{name_cmp, is_proper_name}
-use Rattle.table_model.specs.Operation.{Operation, Insert, Delete, AreAgreeing, SameOperations, state_of, operations_of}
+use Rattle.table_model.specs.Name.{name_cmp}
+use Rattle.table_model.specs.Operation.{Operation, AreAgreeing, state_of, operations_of}
 use Rattle.table_model.specs.Reading.{◌>>=◌}
 use Rattle.table_model.specs.State.{State, Batch, Agree, empty_state}
 use Rattle.table_model.specs.Table.{Table, IsTable, is_schema, folded_table, schema_of}
@@ -16,22 +16,22 @@ use Rattle.table_model.proofs.OwnTable.{IsTable-folded}
 use Rattle.table_model.specs.declared.names.BatchName.{BatchName}
 use Rattle.table_model.specs.declared.names.RowName.{RowName}
 use Rattle.table_model.specs.declared.refusal.Refusal.{Refusal}
-use Rattle.table_model.specs.declared.refusal.Refusal.TheVariants.{BadName, NumbersSpent, BadSchema}
+use Rattle.table_model.specs.declared.refusal.Refusal.TheVariants.{BadSchema}
 use Rattle.table_model.proofs.Operations.{state_of-same, state_of-operations, AreAgreeing-operations, SameOperations-operations}
-use Rattle.replica_store.specs.Exchange.{OfferForm, SummaryForm, offering, applied}
-use Rattle.replica_store.specs.ExchangeLaws.{IsOffer, HoldsListed}
+use Rattle.replica_store.specs.Exchange.{OfferForm, offering, applied}
+use Rattle.replica_store.specs.ExchangeLaws.{IsOffer}
 use Rattle.replica_store.proofs.ExchangeAnswers.{exchange_laws_hold}
-use Rattle.replica_store.specs.Replica.{Replica, joined_with, with_deleted, unless_fault, deleted_rows, delete_fault, rows_between, merged}
-use Rattle.replica_store.proofs.Limits.{ok_unless, same_Ok, IsWithinLimits-empty}
+use Rattle.replica_store.specs.Replica.{Replica, joined_with, with_deleted, deleted_rows, delete_fault, rows_between, merged}
+use Rattle.replica_store.proofs.Limits.{ok_unless, IsWithinLimits-empty}
 use Rattle.replica_store.proofs.MergeAnswers.{made_of}
 use Rattle.store_view.specs.Asked.{condition_names}
 use Rattle.catalogue_join.specs.RowRange.{rows_in as rows_deleted}
 use Rattle.column_file.specs.Files.{canonical_file, ranges_of, HasFile, IsNumbered}
 use Rattle.column_file.proofs.FileLaws.{files_open}
-use Rattle.replica_files.specs.Commands.{held_in, file_of, as_held, Made, deleting, applied_all, applying, merged_with, merged_files}
+use Rattle.replica_files.specs.Commands.{held_in, file_of, as_held, Made, deleting, applied_all, applying, merged_with}
 use Rattle.replica_files.specs.Loads.{LoadForm, named_batches, loaded, imported_as, importing_as}
 use Rattle.replica_files.specs.declared.importing.Imported.{Imported}
-use Rattle.replica_files.specs.FileLaws.{replica_of, Holds, AddsTo, inserts, deletes, deletes_found, deletes_where, operations_in, EachHolds, all_of, SameFiles, OffersBring, StartsEmpty, MergesHold, PullsBring, FileLaws}
+use Rattle.replica_files.specs.FileLaws.{replica_of, Holds, AddsTo, inserts, deletes, deletes_found, deletes_where, operations_in, EachHolds, all_of, SameFiles, StartsEmpty, MergesHold, PullsBring, FileLaws}
 use Rattle.replica_files.proofs.OperationSets.{Adds, parts_agree, join-adds, merge-adds, delete-adds, state_of-inserts, named_agree}
 
 pub ok_one : {X : Type 0} (x y : X) → ◌≡◌ {A = Result X Refusal} (Ok x) (Ok y) → x ≡ y

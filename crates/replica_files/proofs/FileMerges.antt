@@ -2,7 +2,6 @@
 use Rattle.std.specs.Prelude.{◌≡◌, ◌⊎◌, ℕ, true, zero, suc, ◌+◌, ◌-◌, ◌<◌, ◌≤◌, List, [], ◌∷◌, length, map, Option, Some, None, Result, Ok, Err, IfErr, OnOk}
 use Rattle.std.proofs.Common.{refl, sym, ap, subst, ◌∙◌, inl, inr, arith, drop, get_or, set}
 use Rattle.std.proofs.lemmas.List.{drop_more, drop-set-lt, drop_all, length-map, length-drop}
-use Rattle.std.specs.Io.KnownBytes.{Appends}
 use Rattle.table_model.specs.Faults.{AppendsFront}
 use Rattle.table_model.specs.Outcome.{Gives}
 use Rattle.table_model.specs.Reading.{Reads, ◌>>=◌}
@@ -11,7 +10,7 @@ use Rattle.table_model.specs.declared.refusal.Refusal.TheVariants.{Memory, ReadF
 use Rattle.replica_store.specs.Replica.{Replica, merged}
 use Rattle.column_file.specs.Input.{Judges, IsUnread}
 use Rattle.replica_files.proofs.FileLaws.{ok_one}
-use Rattle.replica_files.specs.Commands.{held_in, file_of, as_held, Refuses, WritesFront, Puts, merged_with, merged_files, MergesInto, Merging, MergesAll, Merges, written_of}
+use Rattle.replica_files.specs.Commands.{held_in, file_of, Refuses, WritesFront, Puts, merged_with, merged_files, Merging, MergesAll, Merges, written_of}
 
 one_then : (other : Replica) (bytes : List ℕ) (old : Replica) (rest : List (List ℕ)) → held_in bytes ≡ Ok other
     → merged_with old (bytes ∷ rest) ≡ (merged old other >>= λ (done : Unit {0} × Replica). merged_with done.1 rest)

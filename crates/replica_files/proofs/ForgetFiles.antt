@@ -26,7 +26,7 @@ use Rattle.replica_store.proofs.Limits.{ok_unless}
 use Rattle.replica_store.proofs.MergeAnswers.{is_merge, made_of}
 use Rattle.replica_store.proofs.Names.{contains-names_of}
 use Rattle.store_view.specs.Asked.{query_answer, answer_where, unless_refused, condition_names}
-use Rattle.column_file.specs.Files.{canonical_file, ranges_of}
+use Rattle.column_file.specs.Files.{canonical_file}
 use Rattle.replica_files.specs.Commands.{held_in, file_of, as_held, Made, deleting, applied_all, applying, merged_with, merged_files}
 use Rattle.replica_files.specs.FileLaws.{replica_of, Holds, inserts, deletes, deletes_found, deletes_where, operations_in, all_of}
 use Rattle.replica_files.specs.Forgetting.{forgetting}

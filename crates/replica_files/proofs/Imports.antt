@@ -1,14 +1,12 @@
 -- An import applies an offer of its batches under consecutive names, so that it is a merge with a replica that has them.
-use Rattle.std.specs.Prelude.{◌≡◌, ◌⊎◌, ℕ, ◌+◌, ◌-◌, ◌≤◌, Bool, true, false, cond, not, ◌&&◌, ◌==◌, nat_le, List, [], ◌∷◌, length, Option, Some, None, Result, Ok, Err, IsTrue, IsOk}
+use Rattle.std.specs.Prelude.{◌≡◌, ◌⊎◌, ℕ, ◌+◌, ◌-◌, Bool, true, false, cond, not, ◌&&◌, ◌==◌, nat_le, List, [], ◌∷◌, length, Option, Some, None, Result, Ok, Err, IsTrue, IsOk}
 use Rattle.std.proofs.Common.{refl, sym, ap, subst, ◌∙◌, inl, inr, arith}
-use Rattle.std.proofs.lemmas.Bool.Decides.{nat_tests}
 use Rattle.std.specs.List.{list_all}
 use Rattle.std.specs.FinMap as map
 use Rattle.std.specs.FinSet as set
-use Rattle.table_model.specs.Name.{name_cmp, row_name_cmp, is_proper_name}
+use Rattle.table_model.specs.Name.{name_cmp, is_proper_name}
 use Rattle.table_model.specs.Reading.{◌>>=◌}
 use Rattle.table_model.specs.State.{State, Batch}
-use Rattle.table_model.specs.Table.{Table}
 use Rattle.table_model.specs.declared.names.BatchName.{BatchName}
 use Rattle.table_model.specs.declared.refusal.Refusal.{Refusal}
 use Rattle.table_model.specs.declared.refusal.Refusal.TheVariants.{Memory, BadName, NumbersSpent}
@@ -21,7 +19,7 @@ use Rattle.replica_store.specs.Replica.{Replica, merged}
 use Rattle.replica_store.specs.Segments.{Entry, rows_in, rows_entries}
 use Rattle.replica_store.proofs.RowsIn.{entries-rows_in}
 use Rattle.replica_files.specs.Commands.{Made, Makes}
-use Rattle.replica_files.specs.Loads.{LoadForm, named_batches, named_entries, loaded, first_name, named_by, is_free, first_free, or_spent, chosen_name, new_since, name_of_some, row_count, imported_as, importing_as, importing, is_one_of}
+use Rattle.replica_files.specs.Loads.{LoadForm, named_batches, named_entries, loaded, first_name, named_by, is_free, first_free, or_spent, chosen_name, new_since, imported_as, importing_as, importing, is_one_of}
 use Rattle.replica_files.specs.Refusals.{is_refusal_of_import, is_refusal_of_merge}
 use Rattle.replica_files.specs.declared.importing.Imported.{Imported}
 use Rattle.replica_files.proofs.StoreCommands.{merge_kept}

@@ -26,3 +26,4 @@ pub mod FiguresAsked
 pub mod VectorParts
 pub mod ColumnLines
 pub mod ReportTexts
+pub mod RefusedTold

@@ -1,5 +1,5 @@
 -- Lines of queries are told one after another, however the text is cut into chunks; a line past the limit is too long however long it is.
-use Rattle.std.specs.Prelude.{◌≡◌, ◌≢◌, ◌⊎◌, ℕ, ◌+◌, ◌-◌, ◌<◌, ◌≤◌, Bool, true, false, ◌&&◌, ◌==◌, cond, nat_lt, List, [], ◌∷◌, ◌++◌, length, take, drop, position, Option, Some, None, Result, Ok, Err, OnOk, OnErr, IfErr}
+use Rattle.std.specs.Prelude.{◌≡◌, ◌≢◌, ◌⊎◌, ℕ, ◌+◌, ◌-◌, ◌<◌, ◌≤◌, Bool, true, false, ◌&&◌, ◌==◌, cond, nat_lt, List, [], ◌++◌, length, take, drop, position, Option, Some, None, Result, Ok, Err}
 use Rattle.std.specs.Io.KnownBytes.{Appends, Consumes, IsAtEnd}
 use Rattle.std.specs.Str.{IsUtf8, is_utf8}
 use Rattle.std.specs.Str.Lossy.{utf8_valid_len}
@@ -10,7 +10,6 @@ use Rattle.std.proofs.lemmas.Bool.{cases_lt}
 use Rattle.std.proofs.lemmas.List.{take_all, length-append, append-nil}
 use Rattle.std.proofs.Math.ListN.{length-take}
 use Rattle.table_model.proofs.Written.{appends_both}
-use Rattle.table_model.specs.Counted.{one_more}
 use Rattle.table_model.specs.Faults.{AppendsFront, CountsWrites, IsWithin, GaveMore, Failed}
 use Rattle.table_model.specs.declared.counted.TheConstants.{READ_LIMIT}
 use Rattle.table_model.specs.declared.refusal.Refusal.{Refusal}
@@ -42,10 +41,10 @@ both_nothing a = (λ i. (append-nil a.0 i, and_true a.1 i))
 
 -- ---- a line past the limit
 
-abbrev Long : List ℕ → Type 0
+abbrev pub Long : List ℕ → Type 0
 Long line = line_limit < length line
 
-long_answer : (format : Format) (r : Replica) (line : List ℕ) → Long line → line_answer format r line ≡ Err LineTooLong
+pub long_answer : (format : Format) (r : Replica) (line : List ℕ) → Long line → line_answer format r line ≡ Err LineTooLong
 unfolding line_answer
 long_answer format r line long =
     let some : (length line == 0) ≡ false = grind (arith, nat_tests) in
@@ -57,7 +56,7 @@ same_told : (format : Format) (r : Replica) (a b : List ℕ) → (a ≡ b) ⊎ (
 same_told format r a b (inl same) = ap (λ (line : List ℕ). told_of (line_answer format r line)) same
 same_told format r a b (inr long) = ap told_of (long_answer format r a long.0 ∙ sym (long_answer format r b long.1))
 
-grown_same : (part more : List ℕ) → (grown part more ≡ part ++ more) ⊎ (Long (grown part more) × Long (part ++ more))
+pub grown_same : (part more : List ℕ) → (grown part more ≡ part ++ more) ⊎ (Long (grown part more) × Long (part ++ more))
 grown_same part more = elim (cases_lt (line_limit + 1 - length part) (length more)) [
   | inl past ↦
       let taken : length (take (line_limit + 1 - length part) more) ≡ line_limit + 1 - length part = length-taken (line_limit + 1 - length part) more (omega arith) in

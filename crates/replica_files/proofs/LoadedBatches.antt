@@ -1,6 +1,6 @@
 -- A load's batches under consecutive names are what a store may take: in order, proper, and each fits the table.
-use Rattle.std.specs.Prelude.{◌≡◌, ◌⊎◌, ℕ, suc, ◌+◌, ◌*◌, ◌≤◌, ◌<◌, Bool, true, false, cond, not, ◌&&◌, ◌==◌, nat_le, nat_lt, List, [], ◌∷◌, ◌++◌, length, map as each, Option, Some, None, Result, Ok, Err, T, IsTrue, IsOk}
-use Rattle.std.proofs.Common.{refl, sym, ap, subst, ◌∙◌, inl, inr, arith, drop, get_or}
+use Rattle.std.specs.Prelude.{◌≡◌, ◌⊎◌, ℕ, suc, ◌+◌, ◌≤◌, ◌<◌, Bool, true, false, cond, not, ◌&&◌, ◌==◌, nat_le, List, [], ◌∷◌, ◌++◌, length, Result, Ok, Err, T, IsTrue}
+use Rattle.std.proofs.Common.{refl, sym, ap, subst, ◌∙◌, inl, inr, arith}
 use Rattle.std.proofs.lemmas.Bool.Decides.{nat_tests}
 use Rattle.std.proofs.lemmas.List.{map-append, length-append, length-map}
 use Rattle.std.proofs.lemmas.List.Elements.{All-nil, All-cons, All-append}
@@ -8,19 +8,18 @@ use Rattle.std.specs.List.{All}
 use Rattle.std.specs.Ordering.{nat_cmp, ordering_then, is_lt}
 use Rattle.std.specs.FinMap.Entries.{below_all}
 use Rattle.std.specs.FinMap as map
-use Rattle.std.specs.FinSet as set
 use Rattle.table_model.specs.Name.{name_cmp, is_proper_name}
-use Rattle.table_model.specs.State.{State, Batch}
-use Rattle.table_model.specs.Table.{Table, IsBatch, rows_fault}
+use Rattle.table_model.specs.State.{Batch}
+use Rattle.table_model.specs.Table.{Table}
 use Rattle.table_model.specs.declared.names.BatchName.{BatchName}
 use Rattle.table_model.specs.declared.refusal.Refusal.{Refusal}
-use Rattle.table_model.specs.declared.refusal.Refusal.TheVariants.{BadName, NumbersSpent, Full, Memory}
+use Rattle.table_model.specs.declared.refusal.Refusal.TheVariants.{BadName, NumbersSpent}
 use Rattle.catalogue_join.specs.Run.{name_at}
-use Rattle.segment_core.specs.Segment.{SegmentForm, widths_in, widths_of}
+use Rattle.segment_core.specs.Segment.{SegmentForm}
 use Rattle.replica_store.specs.Exchange.{AreOffered}
-use Rattle.replica_store.specs.Replica.{batch_limit, unless_fault}
+use Rattle.replica_store.specs.Replica.{batch_limit}
 use Rattle.replica_store.specs.Segments.{IsStored, Entry}
-use Rattle.replica_files.specs.Loads.{LoadForm, IsLoaded, IsLoad, batches_in, added_batch, numbered_from, named_batches, named_entries, first_name}
+use Rattle.replica_files.specs.Loads.{LoadForm, IsLoaded, IsLoad, batches_in, numbered_from, named_batches, named_entries, first_name}
 
 -- ---- one more batch
 

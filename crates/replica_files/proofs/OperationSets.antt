@@ -1,6 +1,6 @@
 -- What a file holds grows as a set: a join brings the operations of both states, and a delete brings one for each row.
-use Rattle.std.specs.Prelude.{◌≡◌, ◌⊎◌, ℕ, ◌+◌, ◌≤◌, Bool, true, false, ◌||◌, List, [], ◌∷◌, ◌++◌, map as each, Option, Some, None, Ok}
-use Rattle.std.proofs.Common.{refl, sym, ap, subst, ◌∙◌, inl, inr, arith, append_assoc}
+use Rattle.std.specs.Prelude.{◌≡◌, ◌⊎◌, ℕ, ◌+◌, ◌≤◌, Bool, true, false, ◌||◌, List, [], ◌∷◌, ◌++◌, Some, Ok}
+use Rattle.std.proofs.Common.{refl, sym, ap, subst, ◌∙◌, inl, inr, arith}
 use Rattle.std.specs.List.{list_any}
 use Rattle.std.specs.Ordering.{eq_by_cmp}
 use Rattle.std.specs.FinMap as map
@@ -9,7 +9,7 @@ use Rattle.std.proofs.lemmas.List.Folds.{list_any-append}
 use Rattle.table_model.specs.Name.{name_cmp, row_name_cmp}
 use Rattle.table_model.specs.State.{State, Batch, Agree, join}
 use Rattle.table_model.specs.Table.{Table, or_else}
-use Rattle.table_model.specs.Operation.{Operation, Insert, Delete, Among, AreAgreeing, SameOperations, inserts_of, deletes_of, state_of, operations_of}
+use Rattle.table_model.specs.Operation.{Operation, Insert, Delete, Among, AreAgreeing, inserts_of, deletes_of, state_of}
 use Rattle.table_model.specs.declared.names.BatchName.{BatchName}
 use Rattle.table_model.specs.declared.names.RowName.{RowName}
 use Rattle.table_model.proofs.NameOrder.{names_total, row_names_total, exact_row_names}

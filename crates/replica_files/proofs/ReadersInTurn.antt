@@ -1,6 +1,6 @@
 -- Readers that are read one after another: those before a place were read whole, and those from there on are as they were.
-use Rattle.std.specs.Prelude.{◌≡◌, ◌⊎◌, ℕ, true, false, zero, suc, ◌+◌, ◌<◌, ◌≤◌, List, [], ◌∷◌, length, Option, Result, Ok, Err, IsTrue, IfErr, OnOk}
-use Rattle.std.proofs.Common.{refl, sym, subst, inl, inr, arith, get_or, set}
+use Rattle.std.specs.Prelude.{◌≡◌, ◌⊎◌, ℕ, true, zero, suc, ◌+◌, ◌<◌, ◌≤◌, List, [], ◌∷◌, length, Option, Result, Ok, Err, IsTrue, IfErr, OnOk}
+use Rattle.std.proofs.Common.{refl, subst, inl, inr, arith, get_or, set}
 use Rattle.table_model.specs.Faults.{GaveMore, CountsWrites}
 use Rattle.table_model.specs.declared.refusal.Refusal.{Refusal}
 use Rattle.table_model.specs.declared.refusal.Refusal.TheVariants.{Memory, WriteFault}

@@ -1,5 +1,5 @@
 -- A report begins with its counts.
-use Rattle.std.proofs.Common.{◌≡◌, ℕ, List, OnOk, Ok, Err, Result}
+use Rattle.std.proofs.Common.{ℕ, List, OnOk, Ok, Err, Result}
 use Rattle.answer_formats.specs.declared.format.ReportForm.{ReportForm}
 use Rattle.replica_store.specs.Segments.{StoreForm}
 use Rattle.replica_files.specs.ColumnFigures.{column_lines}

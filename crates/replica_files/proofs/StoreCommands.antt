@@ -1,29 +1,28 @@
 -- What each command answers and makes of a store's replica, from what the store's calls answered.
-use Rattle.std.specs.Prelude.{◌≡◌, ◌≢◌, ◌⊎◌, ℕ, suc, ◌≤◌, ◌-◌, Bool, true, false, cond, not, ◌||◌, ◌==◌, nat_lt, List, [], ◌∷◌, length, map, filter, Option, Some, None, Result, Ok, Err, IsTrue, IsOk, IfErr}
-use Rattle.std.proofs.Common.{refl, sym, ap, subst, ◌∙◌, inl, inr, arith, drop, get_or}
+use Rattle.std.specs.Prelude.{◌≡◌, ◌⊎◌, ℕ, suc, ◌≤◌, ◌-◌, Bool, true, false, cond, not, ◌||◌, ◌==◌, nat_lt, List, [], ◌∷◌, length, map, filter, Option, Some, None, Result, Ok, Err, IsTrue, IsOk}
+use Rattle.std.proofs.Common.{refl, sym, ap, subst, ◌∙◌, inl, inr, arith}
 use Rattle.std.proofs.lemmas.Bool.Decides.{nat_tests}
 use Rattle.std.proofs.lemmas.List.Sums.{list_all-from_AllPass}
 use Rattle.std.specs.List.{All, list_all}
 use Rattle.std.specs.FinMap as map
 use Rattle.std.proofs.lemmas.Bool.{and_parts, and_from, false≢true}
 use Rattle.std.specs.FinSet as set
-use Rattle.table_model.specs.Name.{name_cmp, row_name_cmp, is_proper_name}
+use Rattle.table_model.specs.Name.{row_name_cmp, is_proper_name}
 use Rattle.table_model.specs.Reading.{◌>>=◌}
 use Rattle.table_model.specs.Formula.{Formula}
 use Rattle.table_model.specs.Meaning.{names_where, is_kept, at_row}
 use Rattle.table_model.specs.State.{State, Batch, Cells, live_rows, named_rows, union_of}
 use Rattle.table_model.specs.Table.{Table, same_table}
-use Rattle.table_model.specs.Outcome.{Acts}
 use Rattle.table_model.specs.declared.names.BatchName.{BatchName}
 use Rattle.table_model.specs.declared.names.RowName.{RowName}
 use Rattle.table_model.specs.declared.refusal.Refusal.{Refusal}
-use Rattle.table_model.specs.declared.refusal.Refusal.TheVariants.{Memory, ReadFault, WriteFault, BadName, BadRange, SchemaDiffers, Conflict, Full, NumbersSpent}
+use Rattle.table_model.specs.declared.refusal.Refusal.TheVariants.{Memory, BadName, BadRange, SchemaDiffers, Conflict, Full}
 use Rattle.table_model.proofs.Joins.{same_maps}
 use Rattle.table_model.proofs.NameOrder.{row_names_total, exact_row_names}
 use Rattle.replica_store.specs.Exchange.{OfferForm, applied, offering}
 use Rattle.replica_store.specs.ExchangeLaws.{HasGrown}
 use Rattle.replica_store.specs.Replica.{Replica, SaysChange, with_deleted, with_join, deleted_names, names_fault, deleted_rows, delete_fault, rows_between, unless_fault, merged, merge_fault, conflict_or_full, conflict_with, entries_of, batch_limit}
-use Rattle.replica_store.proofs.Limits.{ok_unless, same_Ok}
+use Rattle.replica_store.proofs.Limits.{ok_unless}
 use Rattle.replica_store.proofs.Idle.{absorbs}
 use Rattle.replica_store.proofs.Growth.{grown_itself, grown_then, grown_merge}
 use Rattle.replica_store.proofs.MergeAnswers.{made_of, is_merge}
@@ -31,7 +30,7 @@ use Rattle.replica_store.proofs.Merges.{union-same}
 use Rattle.replica_store.proofs.RowLists.{all_held}
 use Rattle.query_parser.specs.Descent.{condition_of}
 use Rattle.query_parser.specs.Resolve.{resolved_condition}
-use Rattle.store_view.specs.Asked.{condition_names, is_refusal_of_condition}
+use Rattle.store_view.specs.Asked.{condition_names}
 use Rattle.column_file.specs.Files.{ranges_of}
 use Rattle.column_file.proofs.RangeLists.{ranges_are}
 use Rattle.catalogue_join.specs.RowRange.{RowRange, AreMaximal, rows_in}

@@ -11,8 +11,7 @@ use Rattle.table_model.specs.declared.refusal.Refusal.TheVariants.{Memory, ReadF
 use Rattle.answer_formats.specs.Formats.{formatted}
 use Rattle.answer_formats.specs.declared.format.Format.{Format}
 use Rattle.column_file.specs.Files.{ranges_of, offer_bytes}
-use Rattle.column_file.specs.SummaryBytes.{summary_bytes}
-use Rattle.replica_store.specs.Exchange.{OfferForm, SummaryForm, offered, summary_of, unlisted}
+use Rattle.replica_store.specs.Exchange.{OfferForm, SummaryForm, offered, unlisted}
 use Rattle.replica_store.specs.Replica.{Replica}
 use Rattle.replica_store.specs.Segments.{StoreForm}
 use Rattle.store_view.specs.Asked.{query_answer, is_refusal_of_query}

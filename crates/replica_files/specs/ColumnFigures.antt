@@ -1,5 +1,5 @@
 -- The figures of a column: how its vectors are coded, and what its live rows hold.
-use Rattle.std.specs.Prelude.{◌≡◌, ℕ, ◌+◌, ◌*◌, ◌/◌, ◌%◌, ◌^◌, ◌<◌, ◌≤◌, Bool, false, cond, ◌==◌, is_none, List, [], ◌∷◌, ◌++◌, codes, length, map as each, slice_index_or, count_by, sum_by, Option, Some, None, ℤ, pos}
+use Rattle.std.specs.Prelude.{ℕ, ◌+◌, ◌*◌, ◌/◌, ◌%◌, ◌^◌, ◌<◌, ◌≤◌, Bool, false, cond, ◌==◌, is_none, List, [], ◌∷◌, ◌++◌, codes, length, map as each, slice_index_or, count_by, sum_by, Option, Some, None, ℤ, pos}
 use Rattle.std.specs.List.{flat_map}
 use Rattle.std.specs.Fmt.{decimal, signed_decimal}
 use Rattle.std.specs.FinMap as map
@@ -12,13 +12,10 @@ use Rattle.table_model.specs.Values.{least, greatest}
 use Rattle.table_model.specs.declared.answer.Field.{Field}
 use Rattle.table_model.specs.declared.answer.Field.TheVariants.{Null, Whole, Millionths}
 use Rattle.table_model.specs.declared.names.RowName.{RowName}
-use Rattle.table_model.specs.declared.query.ColumnMention.{ColumnMention}
 use Rattle.table_model.specs.declared.query.Fold.{Fold}
 use Rattle.table_model.specs.declared.query.Fold.TheVariants.{Count, Min, Max}
 use Rattle.table_model.specs.declared.query.Item.{Item}
-use Rattle.table_model.specs.declared.query.ItemValue.{ItemValue}
 use Rattle.table_model.specs.declared.query.ItemValue.TheVariants.{Computed}
-use Rattle.table_model.specs.declared.query.SetFunction.{SetFunction}
 use Rattle.table_model.specs.declared.query.SetFunction.TheVariants.{CountRows, Of}
 use Rattle.segment_core.specs.Coded.{coding_of, payload_bytes}
 use Rattle.segment_core.specs.CodedVector.{VectorForm}

@@ -1,5 +1,5 @@
 -- The rows of a text as batches: 65,536 rows in each but the last.
-use Rattle.std.specs.Prelude.{◌≡◌, ◌⊎◌, ℕ, ◌≤◌, List, [], ◌∷◌, ◌++◌, length, Option, Some, None, Result, Ok, Err}
+use Rattle.std.specs.Prelude.{◌≡◌, ◌⊎◌, ℕ, ◌≤◌, List, [], ◌∷◌, ◌++◌, length, Option, Some, None, Ok, Err}
 use Rattle.table_model.specs.Counted.{one_more}
 use Rattle.table_model.specs.State.{Batch}
 use Rattle.table_model.specs.Table.{row_limit}

@@ -1,5 +1,5 @@
 -- What a dump of some columns and rows has to do with the whole dump, and with the columns that are given for the same choice.
-use Rattle.std.specs.Prelude.{◌≡◌, Bool, List, map, length, Option, None, ℤ}
+use Rattle.std.specs.Prelude.{◌≡◌, Bool, map, length, None}
 use Rattle.std.specs.List.{range_with_len}
 use Rattle.table_model.specs.State.{State, live_rows}
 use Rattle.table_model.specs.Table.{Table}

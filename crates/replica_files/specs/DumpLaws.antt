@@ -1,5 +1,5 @@
 -- What a dump wrote, read again and imported.
-use Rattle.std.specs.Prelude.{◌≡◌, List, [], map as each, true, false, Result, Ok}
+use Rattle.std.specs.Prelude.{◌≡◌, List, [], map as each, true, false, Ok}
 use Rattle.table_model.specs.State.{Batch, Cells, live_rows}
 use Rattle.table_model.specs.declared.names.BatchName.{BatchName}
 use Rattle.table_model.specs.declared.names.RowName.{RowName}

@@ -1,8 +1,7 @@
 -- The law of files: what a file holds is a set of operations, which commands add to, and which alone decides its bytes.
 use Rattle.std.specs.Prelude.{◌≡◌, ℕ, List, [], ◌∷◌, ◌++◌, map as each, Result, Ok, Err}
 use Rattle.table_model.specs.Operation.{Operation, Insert, Delete, AreAgreeing, SameOperations, state_of, operations_of}
-use Rattle.table_model.specs.Reading.{◌>>=◌}
-use Rattle.table_model.specs.State.{State, Batch, empty_state}
+use Rattle.table_model.specs.State.{Batch, empty_state}
 use Rattle.table_model.specs.Table.{Table, schema_of}
 use Rattle.table_model.specs.declared.schema.ColType.{ColType}
 use Rattle.table_model.specs.declared.names.BatchName.{BatchName}
@@ -10,10 +9,10 @@ use Rattle.table_model.specs.declared.names.RowName.{RowName}
 use Rattle.table_model.specs.declared.refusal.Refusal.{Refusal}
 use Rattle.replica_store.specs.Exchange.{OfferForm, SummaryForm}
 use Rattle.replica_store.specs.ExchangeLaws.{HoldsListed}
-use Rattle.replica_store.specs.Replica.{Replica, deleted_rows, rows_between, merged}
+use Rattle.replica_store.specs.Replica.{Replica, deleted_rows, rows_between}
 use Rattle.store_view.specs.Asked.{condition_names}
 use Rattle.column_file.specs.Files.{canonical_file}
-use Rattle.replica_files.specs.Commands.{held_in, file_of, as_held, Made, deleting, applied_all, applying, merged_files, OffersTo}
+use Rattle.replica_files.specs.Commands.{held_in, file_of, as_held, Made, deleting, applying, merged_files, OffersTo}
 use Rattle.replica_files.specs.Loads.{LoadForm, named_batches, importing_as}
 
 -- the replica of the state of operations

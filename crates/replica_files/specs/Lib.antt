@@ -14,5 +14,6 @@ pub mod Forgetting
 pub mod Loads
 pub mod DumpLaws
 pub mod QueryLines
+pub mod RefusedLines
 pub mod Refusals
 pub mod Reports

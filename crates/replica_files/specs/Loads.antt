@@ -1,10 +1,10 @@
 -- Imports: batches of rows that wait for their names, and what they make of a replica under consecutive names.
-use Rattle.std.specs.Prelude.{◌≡◌, ℕ, ◌+◌, ◌-◌, ◌/◌, ◌%◌, ◌≤◌, ◌<◌, suc, Bool, true, false, cond, not, ◌&&◌, ◌==◌, nat_le, nat_lt, List, [], ◌∷◌, ◌++◌, length, map as each, Option, Some, None, Result, Ok, Err, IsTrue, refl}
+use Rattle.std.specs.Prelude.{◌≡◌, ℕ, ◌+◌, ◌-◌, ◌/◌, ◌%◌, ◌≤◌, Bool, false, cond, not, ◌&&◌, ◌==◌, nat_le, nat_lt, List, [], ◌∷◌, ◌++◌, length, map as each, Option, Some, None, Result, Ok, Err, IsTrue, refl}
 use Rattle.std.specs.Coded.{Coded, code_by, coded×, coded_list}
 use Rattle.std.specs.FinMap as map
 use Rattle.std.specs.FinSet as set
-use Rattle.std.specs.List.{All, list_all, flat_map}
-use Rattle.table_model.specs.Name.{name_cmp, row_name_cmp, is_proper_name}
+use Rattle.std.specs.List.{All, list_all}
+use Rattle.table_model.specs.Name.{is_proper_name}
 use Rattle.table_model.specs.Reading.{◌>>=◌}
 use Rattle.table_model.specs.State.{State, Batch, coded_batch}
 use Rattle.table_model.specs.Table.{Table, IsBatch, coded_table, rows_fault}
@@ -15,6 +15,7 @@ use Rattle.table_model.specs.declared.refusal.Refusal.TheVariants.{BadName, Numb
 use Rattle.catalogue_join.specs.RowRange.{RowRange, AreMaximal, rows_in}
 use Rattle.catalogue_join.specs.Run.{name_at}
 use Rattle.segment_core.specs.Segment.{SegmentForm, widths_in, widths_of}
+use Rattle.replica_store.specs.Forgets.{row_count}
 use Rattle.replica_store.specs.Replica.{Replica, batch_limit, merged, unless_fault}
 use Rattle.column_file.specs.Files.{ranges_of}
 use Rattle.replica_files.specs.Commands.{Made}
@@ -42,11 +43,6 @@ pub record IsLoaded (table : Table) (s : SegmentForm) : Type 0 where
 pub record IsLoad (table : Table) (segments : List SegmentForm) : Type 0 where
   pub limit : length segments ≤ batch_limit
   pub loaded : All (IsLoaded table) segments
-
--- how many rows there are
-abbrev pub row_count : List Batch → ℕ
-row_count [] = 0
-row_count (rows ∷ batches) = length rows + row_count batches
 
 -- things under consecutive names of an origin, the first having the number n
 abbrev pub numbered_from : {X : Type 0} → BatchName → ℕ → List X → List (BatchName × X)

@@ -5,34 +5,18 @@ ghost use Rattle.replica_files.specs.Forgetting.{forgetting};
 ghost use Rattle.replica_files.specs.Refusals.{Ends, is_refusal_of_forget};
 
 use crate::file_writing::write_changed;
-use crate::stored::stored_rows;
 use column_file::open;
-use replica_store::Store;
+use replica_store::{Forgotten, Store};
 use std::alloc::Global;
 use std::io::{Read, Write};
 use table_model::{Counted, Origin, Refusal};
-
-/// What a forget dropped. The file has changed if it dropped a batch.
-#[derive(Clone, Copy, Debug, PartialEq, Eq)]
-pub struct Forgotten {
-    /// How many batches, at most 1,048,576.
-    pub batches: u32,
-    /// How many rows they had, all of them deleted.
-    pub rows: u64,
-}
 
 /// Drops the batches of a store of which every row is deleted. Their deletions stay. `Memory` is the only refusal.
 pub fn forget_dead(alloc: Global, store: &mut Store) -> Result<Forgotten, Refusal>
     ensures makes { Makes (λ done. (done.batches, done.rows)) (λ done. not (done.batches == 0)) store.old.replica result store.new.replica (forgetting store.old.replica) }
     ensures refused { IfErr result (λ e. IsTrue (is_refusal_of_forget e)) }
 {
-    let batches = store.batches();
-    let rows = stored_rows(store);
-    store.forget(alloc)?;
-    Ok(Forgotten {
-        batches: batches.saturating_sub(store.batches()) as u32,
-        rows: rows.saturating_sub(stored_rows(store)),
-    })
+    store.forget(alloc)
 }
 
 /// Drops the batches of a file of which every row is deleted, and writes the file anew if there are such. Their deletions stay, so

@@ -40,7 +40,7 @@ pub use deleting::{Deleted, DeletedRows, delete, delete_rows};
 pub use dumping::{dump, dump_where};
 pub use exchange::{offer, summary};
 pub use file_check::check;
-pub use forgetting::{Forgotten, forget, forget_dead};
+pub use forgetting::{forget, forget_dead};
 pub use importing::{Imported, import, import_load};
 pub use laws::{drawn_names_are_free, dump_column_laws, dump_laws, file_laws, forget_file_laws};
 pub use line_part::LinePart;

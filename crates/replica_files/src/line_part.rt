@@ -1,5 +1,5 @@
 //! The part of a line that was read last.
-ghost use Rattle.std.specs.Prelude.{◌≡◌, OnOk, [], List, ℕ};
+ghost use Rattle.std.specs.Prelude.{◌≡◌, ◌≤◌, OnOk, [], List, ℕ, length};
 ghost use Rattle.replica_files.specs.QueryLines.{grown};
 
 use csv_rows::LINE_LIMIT;
@@ -35,7 +35,8 @@ impl LinePart {
 
     /// The bytes: at most 1,048,577.
     pub fn as_slice(&self) -> &[u8]
-        ensures { result.now ≡ self.now }
+        ensures same { result.now ≡ self.now }
+        ensures limit { length result.now ≤ 1048577 }
     {
         self.bytes.as_slice()
     }

@@ -4,7 +4,8 @@ ghost use Rattle.catalogue_join.specs.Run.{name_at};
 ghost use Rattle.table_model.specs.Outcome.{Acts, Gives};
 ghost use Rattle.replica_store.specs.Exchange.{AreOffered};
 ghost use Rattle.replica_store.specs.Replica.{batch_limit};
-ghost use Rattle.replica_files.specs.Loads.{added_batch, empty_load, row_count, batches_in, named_batches, named_entries, first_name};
+ghost use Rattle.replica_store.specs.Forgets.{row_count};
+ghost use Rattle.replica_files.specs.Loads.{added_batch, empty_load, batches_in, named_batches, named_entries, first_name};
 
 use replica_store::MAX_BATCHES;
 use segment_core::Segment;

@@ -1,5 +1,5 @@
 //! Queries that are the lines of a text, answered as they come.
-ghost use Rattle.std.specs.Prelude.{◌≡◌, ◌≢◌, ◌⊎◌, ◌&&◌, ◌==◌, ◌<◌, ◌≤◌, true, [], None, List, ℕ, Ok, Err, length, position, MatchResult, MatchOption, IfSome, IfOk, IfErr, OnOk, OnErr};
+ghost use Rattle.std.specs.Prelude.{◌≡◌, ◌≢◌, ◌⊎◌, ◌&&◌, ◌==◌, ◌<◌, ◌≤◌, ◌∷◌, true, [], None, Option, List, ℕ, Ok, Err, length, position, MatchResult, MatchOption, IfSome, IfOk, IfErr, OnOk, OnErr};
 ghost use Rattle.std.specs.Io.KnownBytes.{Appends, IsAtEnd};
 ghost use Rattle.table_model.specs.Faults.{AppendsFront, CountsWrites, Failed};
 ghost use Rattle.table_model.specs.declared.refusal.Refusal.TheVariants.{Memory, ReadFault, Syntax, WriteFault};
@@ -8,6 +8,7 @@ ghost use Rattle.std.specs.Str.Lossy.{utf8_valid_len};
 ghost use Rattle.replica_files.specs.Asking.{WritesText};
 ghost use Rattle.replica_files.specs.Refusals.{EndsFailed};
 ghost use Rattle.replica_files.specs.QueryLines.{CutAt, Fed, FedFront, Heard, HeardAll, HeardFront, HeardMore, EndsEarly, answer_in_bytes, grown, line_answer, still_told, told_of};
+ghost use Rattle.replica_files.specs.RefusedLines.{RefusedLine, HearsMore, HearsRefused, HearsSome, Hearing, HearsChunk, HearsChunkFront, HearingMore, HearingEnds, next_number, refused_line, refused_of};
 
 use crate::answers::answer;
 use crate::line_part::LinePart;
@@ -27,11 +28,16 @@ const ROUNDS: u64 = READ_LIMIT + 1;
 
 /// What is reported while queries are read.
 pub trait Listener {
+    /// The refused lines of which it was told, the first one first, if it says so.
+    ghost heard: { Self → Option (List RefusedLine) } = { λ _. None };
+
     /// More lines are to be read.
-    fn wait(&mut self);
+    fn wait(&mut self)
+        ensures { heard self.new ≡ heard self.old };
 
     /// A line is refused and passed over: its number, from 1, its bytes, up to one past the limit of a line, and why.
-    fn refused(&mut self, number: u64, line: &[u8], refusal: Refusal);
+    fn refused(&mut self, number: u64, line: &[u8], refusal: Refusal)
+        ensures { HearsMore (heard self.old) (heard self.new) (refused_line number line.now refusal ∷ []) };
 }
 
 /// The place of the first line feed.
@@ -120,7 +126,8 @@ struct QueryLines {
 impl QueryLines {
     /// Before anything was read.
     fn new(alloc: Global) -> QueryLines
-        ensures { (result.line ≡ []) × (result.is_whole ≡ true) }
+        ensures start { (result.line ≡ []) × (result.is_whole ≡ true) }
+        ensures number { result.number ≡ 0 }
     {
         QueryLines {
             line: LinePart::new(alloc),
@@ -139,6 +146,9 @@ impl QueryLines {
         ensures told { OnOk result (Appends (W.contents writer.old.0) (W.contents writer.new.0) (told_of (line_answer asked.now.format asked.now.file.now.replica self.old.line)).0) }
         ensures whole { OnOk result (self.new.is_whole ≡ (self.old.is_whole && (told_of (line_answer asked.now.format asked.now.file.now.replica self.old.line)).1)) }
         ensures line { self.new.line ≡ self.old.line }
+        ensures number { OnOk result (self.new.number ≡ next_number self.old.number) }
+        ensures refused { OnOk result (HearsMore (L.heard listener.old) (L.heard listener.new) (refused_of (next_number self.old.number) self.old.line (line_answer asked.now.format asked.now.file.now.replica self.old.line))) }
+        ensures quiet { OnErr result (L.heard listener.new ≡ L.heard listener.old) }
         ensures front { OnErr result (AppendsFront (W.contents writer.old.0) (W.contents writer.new.0) (told_of (line_answer asked.now.format asked.now.file.now.replica self.old.line)).0) }
         ensures ended { IfErr result (λ e. (e ≡ Memory) ⊎ (e ≡ WriteFault)) }
         ensures kept { OnOk result (writer.new.1 ≡ writer.old.1) }
@@ -164,6 +174,9 @@ impl QueryLines {
         ensures told { OnOk result (Appends (W.contents writer.old.0) (W.contents writer.new.0) (told_of (line_answer asked.now.format asked.now.file.now.replica (grown self.old.line piece.now))).0) }
         ensures whole { OnOk result (self.new.is_whole ≡ (self.old.is_whole && (told_of (line_answer asked.now.format asked.now.file.now.replica (grown self.old.line piece.now))).1)) }
         ensures line { OnOk result (self.new.line ≡ []) }
+        ensures number { OnOk result (self.new.number ≡ next_number self.old.number) }
+        ensures refused { OnOk result (HearsMore (L.heard listener.old) (L.heard listener.new) (refused_of (next_number self.old.number) (grown self.old.line piece.now) (line_answer asked.now.format asked.now.file.now.replica (grown self.old.line piece.now)))) }
+        ensures quiet { OnErr result (L.heard listener.new ≡ L.heard listener.old) }
         ensures front { OnErr result (AppendsFront (W.contents writer.old.0) (W.contents writer.new.0) (told_of (line_answer asked.now.format asked.now.file.now.replica (grown self.old.line piece.now))).0) }
         ensures ended { IfErr result (λ e. (e ≡ Memory) ⊎ (e ≡ WriteFault)) }
         ensures kept { OnOk result (writer.new.1 ≡ writer.old.1) }
@@ -185,6 +198,8 @@ impl QueryLines {
     ) -> Result<(), Refusal>
         ensures fed { OnOk result (Fed asked.now.format asked.now.file.now.replica (W.contents writer.old.0) (W.contents writer.new.0) self.old.is_whole self.new.is_whole self.old.line chunk.now self.new.line) }
         ensures front { OnErr result (FedFront asked.now.format asked.now.file.now.replica (W.contents writer.old.0) (W.contents writer.new.0) self.old.line chunk.now) }
+        ensures refused { OnOk result (HearsChunk asked.now.format asked.now.file.now.replica (L.heard listener.old) (L.heard listener.new) self.old.number self.new.number self.old.line chunk.now self.new.line) }
+        ensures fewer { OnErr result (HearsChunkFront asked.now.format asked.now.file.now.replica (L.heard listener.old) (L.heard listener.new) self.old.number self.old.line chunk.now) }
         ensures ended { IfErr result (λ e. (e ≡ Memory) ⊎ (e ≡ WriteFault)) }
         ensures kept { OnOk result (writer.new.1 ≡ writer.old.1) }
         ensures fault { IfErr result (λ e. CountsWrites e writer.old.1 writer.new.1) }
@@ -213,6 +228,8 @@ fn round<R: Read, W: Write, L: Listener>(
     ensures bound { IfOk result (λ n. n ≤ length buffer.old) }
     ensures end { IfOk result (λ n. n ≡ 0 → IsAtEnd (R.remaining reader.new.0)) }
     ensures early { OnErr result (EndsEarly asked.now.format asked.now.file.now.replica (R.remaining reader.old.0) (W.contents writer.old.0) (W.contents writer.new.0) lines.old.is_whole lines.old.line) }
+    ensures refused { OnOk result (HearingMore asked.now.format asked.now.file.now.replica (R.remaining reader.old.0) (R.remaining reader.new.0) (L.heard listener.old) (L.heard listener.new) lines.old.number lines.new.number lines.old.line lines.new.line) }
+    ensures fewer { OnErr result (HearingEnds asked.now.format asked.now.file.now.replica (R.remaining reader.old.0) (L.heard listener.old) (L.heard listener.new) lines.old.number lines.old.line) }
     ensures kept { OnOk result ((reader.new.1 ≡ reader.old.1) × (writer.new.1 ≡ writer.old.1)) }
     ensures fault { IfErr result (λ e. Failed ⊥ e reader.old.1 reader.new.1 writer.old.1 writer.new.1) }
 {
@@ -237,6 +254,8 @@ fn rounds<R: Read, W: Write, L: Listener>(
     requires limit { length buffer.old ≤ 65536 }
     ensures heard { IfOk result (λ lines. (total : ℕ) × Heard asked.now.format asked.now.file.now.replica (R.remaining reader.old.0) (R.remaining reader.new.0) (W.contents writer.old.0) (W.contents writer.new.0) lines.is_whole lines.line total) }
     ensures early { OnErr result (HeardFront asked.now.format asked.now.file.now.replica (R.remaining reader.old.0) (W.contents writer.old.0) (W.contents writer.new.0)) }
+    ensures refused { IfOk result (λ lines. Hearing asked.now.format asked.now.file.now.replica (R.remaining reader.old.0) (R.remaining reader.new.0) (L.heard listener.old) (L.heard listener.new) lines.number lines.line) }
+    ensures fewer { OnErr result (HearsSome asked.now.format asked.now.file.now.replica (R.remaining reader.old.0) (L.heard listener.old) (L.heard listener.new)) }
     ensures ends { EndsFailed R.remaining reader.old reader.new writer.old writer.new result }
 {
     let mut lines = QueryLines::new(asked.alloc);
@@ -270,6 +289,10 @@ pub fn answer_lines<R: Read, W: Write, L: Listener>(
 ) -> Result<bool, Refusal>
     ensures heard { IfOk result (λ whole. HeardAll format file.now.replica (R.remaining reader.old.0) (W.contents writer.old.0) (W.contents writer.new.0) whole) }
     ensures front { OnErr result (HeardFront format file.now.replica (R.remaining reader.old.0) (W.contents writer.old.0) (W.contents writer.new.0)) }
+
+    // Each line that is refused is told to the listener, and no other.
+    ensures refused { OnOk result (HearsRefused format file.now.replica (R.remaining reader.old.0) (L.heard listener.old) (L.heard listener.new)) }
+    ensures fewer { OnErr result (HearsSome format file.now.replica (R.remaining reader.old.0) (L.heard listener.old) (L.heard listener.new)) }
     ensures ends { EndsFailed R.remaining reader.old reader.new writer.old writer.new result }
 {
     let asked = Asked {

@@ -4,7 +4,7 @@ ghost use Rattle.table_model.specs.declared.refusal.Refusal.TheVariants.{Memory}
 ghost use Rattle.replica_files.specs.Counts.{AreCountsOf};
 
 use crate::batch_counts::live_in;
-use crate::stored::{file_bytes, stored_rows};
+use crate::stored::file_bytes;
 use replica_store::Store;
 use std::alloc::Global;
 use table_model::Refusal;
@@ -31,7 +31,7 @@ pub(crate) fn store_counts(alloc: Global, store: &Store) -> Result<StoreCounts, 
 {
     let bytes = file_bytes(alloc, store)?;
     let batches = store.batches() as u64;
-    let rows = stored_rows(store);
+    let rows = store.rows();
     let live = live_in(store);
     let ranges = store.tombs().ranges().len() as u64;
     Ok(StoreCounts {

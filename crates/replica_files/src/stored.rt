@@ -1,27 +1,12 @@
-//! How many rows a store has, and how long its file is.
+//! How long a store's file is.
 ghost use Rattle.std.specs.Prelude.{◌≡◌, IfErr};
 ghost use Rattle.table_model.specs.declared.refusal.Refusal.TheVariants.{Memory};
-ghost use Rattle.replica_store.specs.Replica.{entries_of};
-ghost use Rattle.replica_files.specs.Forgetting.{batches_of};
-ghost use Rattle.replica_files.specs.Loads.{row_count};
 
 use column_file::export;
 use replica_store::Store;
 use std::alloc::Global;
 use std::io::{self, Write};
 use table_model::{Counted, Refusal};
-
-/// How many rows a store's batches have, deleted ones among them.
-pub(crate) fn stored_rows(store: &Store) -> u64
-    ensures { result ≡ row_count (batches_of (entries_of store.now.replica)) }
-{
-    let mut rows: u64 = 0;
-    for index in 0..store.batches() {
-        let (_, segment) = store.batch(index);
-        rows += segment.rows() as u64;
-    }
-    rows
-}
 
 /// A writer that counts the bytes that it takes, and keeps none.
 #[derive(Drop)]

@@ -1,6 +1,7 @@
 pub mod Applied
 pub mod ForgetAnswers
 pub mod Forgetting
+pub mod ForgetCounts
 pub mod Conflicts
 pub mod InParts
 pub mod Joining

@@ -1,8 +1,10 @@
 -- Forget: a store keeps the segments of the batches that have a row that isn't deleted, and all deletions.
-use Rattle.std.specs.Prelude.{Bool, List, filter, Result, Ok}
+use Rattle.std.specs.Prelude.{ℕ, ◌+◌, not, Bool, List, [], ◌∷◌, filter, length, map as each, Result, Ok}
 use Rattle.std.specs.FinMap as map
 use Rattle.std.specs.FinSet as set
 use Rattle.table_model.specs.Name.{row_name_cmp}
+use Rattle.table_model.specs.State.{State, Batch}
+use Rattle.table_model.specs.declared.names.BatchName.{BatchName}
 use Rattle.table_model.specs.declared.refusal.Refusal.{Refusal}
 use Rattle.forgotten_batches.specs.Forgotten.{has_live_row, forgotten}
 use Rattle.replica_store.specs.Replica.{Replica}
@@ -23,3 +25,16 @@ live_segments deleted segments = map.from_sorted (live_entries deleted (map.entr
 -- forget: the replica has what is left of its state
 abbrev pub forgotten_batches : Replica → Result (Unit {0} × Replica) Refusal
 forgotten_batches r = Ok (tt, record { schema = r.schema; own = r.own; state = forgotten r.state })
+
+-- how many rows batches have
+abbrev pub row_count : List Batch → ℕ
+row_count [] = 0
+row_count (rows ∷ batches) = length rows + row_count batches
+
+-- the rows of named batches
+abbrev pub batches_of : List (BatchName × Batch) → List Batch
+batches_of es = each (λ (e : BatchName × Batch). e.1) es
+
+-- the batches of a state of which every row is deleted
+abbrev pub dead_batches : State → List (BatchName × Batch)
+dead_batches s = filter (λ (e : BatchName × Batch). not (has_live_row s.deleted e)) (map.entries s.batches)

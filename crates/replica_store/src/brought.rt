@@ -35,7 +35,7 @@ impl<'a> Model for Brought<'a> {
 }
 
 impl<'a> Brought<'a> {
-    /// Nothing is brought to the store yet. The only refusal is `Memory`.
+    /// Nothing is brought to the store yet. If there is no memory for that, `Memory`.
     pub fn nothing(alloc: Global, held: &'a Store) -> Result<Brought<'a>, Refusal>
         ensures held { IfOk result (λ brought. brought.held ≡ held.now) }
         ensures own { Reads (λ brought. brought.own.replica) result (new_replica held.now.replica.schema (record { 0 = 1 })) }

@@ -3,6 +3,7 @@
 
 mod batches;
 mod brought;
+mod forgotten;
 mod inserted;
 mod joined;
 mod laws;
@@ -11,6 +12,7 @@ mod store;
 mod summary;
 
 pub use brought::Brought;
+pub use forgotten::Forgotten;
 pub use inserted::Inserted;
 pub use joined::Joined;
 pub use laws::{exchange_laws, forget_store_laws, keeping_laws, merge_laws};

@@ -1,6 +1,6 @@
 //! A replica's store: a table's schema, an own origin, and a state that appends, inserts, deletes, merges and applied messages
 //! change.
-ghost use Rattle.std.specs.Prelude.{nat_lt, ◌++◌, ◌≡◌, ◌<◌, ◌≤◌, slice_get, Some, None, Ok, Err, true, false, is_ok, IsOk, IfOk, IfErr, OnOk, OnErr, IsTrue, T};
+ghost use Rattle.std.specs.Prelude.{nat_lt, length, ◌++◌, ◌≡◌, ◌<◌, ◌≤◌, slice_get, Some, None, Ok, Err, true, false, is_ok, IsOk, IfOk, IfErr, OnOk, OnErr, IsTrue, T};
 ghost use Rattle.std.specs.FinMap as map;
 ghost use Rattle.std.specs.List.{All, list_all};
 ghost use Rattle.table_model.specs.Name.{name_cmp, is_proper_name};
@@ -10,7 +10,7 @@ ghost use Rattle.table_model.specs.Table.{IsBatch};
 ghost use Rattle.segment_core.specs.Segment.{canonical_segment, widths_in, widths_of};
 ghost use Rattle.segment_core.specs.SegmentBytes.{HasBytesIn};
 ghost use Rattle.forgotten_batches.specs.Forgotten.{forgotten};
-ghost use Rattle.replica_store.specs.Forgets.{live_segments, forgotten_batches};
+ghost use Rattle.replica_store.specs.Forgets.{live_segments, forgotten_batches, dead_batches, batches_of, row_count};
 ghost use Rattle.replica_store.specs.Brought.{IsBrought, unheld_state};
 ghost use Rattle.replica_store.specs.Exchange.{summary_of, offered, unlisted, unlisted_state, applied, opened};
 ghost use Rattle.replica_store.specs.Parted.{AreParted};
@@ -22,6 +22,7 @@ ghost use Rattle.replica_store.specs.declared.inserted.Inserted.TheVariants.{New
 use crate::batches::{
     Batches, conflict_in_either, copies_lacked, count_new, keep_lacked, names_held,
 };
+use crate::forgotten::Forgotten;
 use crate::inserted::Inserted;
 use crate::offer::Offer;
 use crate::summary::Summary;
@@ -118,6 +119,18 @@ impl Store {
         ensures within { IsWithinLimits self.now.replica.schema self.now.replica.state.batches }
     {
         self.batches.len()
+    }
+
+    /// How many rows the batches have, deleted ones among them.
+    pub fn rows(&self) -> u64
+        ensures { result ≡ row_count (batches_of (entries_of self.now.replica)) }
+    {
+        let mut rows: u64 = 0;
+        for index in 0..self.batches() {
+            let (_, segment) = self.batch(index);
+            rows += segment.rows() as u64;
+        }
+        rows
     }
 
     /// The law that a store is within its limits.
@@ -249,11 +262,30 @@ impl Store {
         Ok(true)
     }
 
-    /// Drops the batches of which every row is deleted. Their deletions stay, so these rows never come to life again, and no query
-    /// is answered otherwise.
+    /// Drops the batches of which every row is deleted, and answers how many batches and rows these are. Their deletions stay, so these
+    /// rows never come to life again, and no query is answered otherwise.
     ///
     /// `Memory` is answered if there is no memory for the names of the batches that stay. If no batch is dropped it takes none.
-    pub fn forget(&mut self, alloc: Global) -> Result<(), Refusal>
+    pub fn forget(&mut self, alloc: Global) -> Result<Forgotten, Refusal>
+        ensures acts { Acts (λ done. tt) self.old.replica result self.new.replica (forgotten_batches self.old.replica) }
+        ensures batches { IfOk result (λ done. done.batches ≡ length (dead_batches self.old.replica.state)) }
+        ensures rows { IfOk result (λ done. done.rows ≡ row_count (batches_of (dead_batches self.old.replica.state))) }
+        ensures segments { OnOk result (self.new.segments ≡ live_segments self.old.replica.state.deleted self.old.segments) }
+        ensures live { live_rows self.new.replica.state ≡ live_rows self.old.replica.state }
+        ensures idle { forgotten self.old.replica.state ≡ self.old.replica.state → IsOk result }
+        ensures refused { OnErr result (self.new ≡ self.old) }
+    {
+        let batches = self.batches();
+        let rows = self.rows();
+        self.drop_dead(alloc)?;
+        Ok(Forgotten {
+            batches: batches.saturating_sub(self.batches()) as u32,
+            rows: rows.saturating_sub(self.rows()),
+        })
+    }
+
+    /// The same, without the counts.
+    fn drop_dead(&mut self, alloc: Global) -> Result<(), Refusal>
         ensures acts { Acts (λ done. done) self.old.replica result self.new.replica (forgotten_batches self.old.replica) }
         ensures segments { OnOk result (self.new.segments ≡ live_segments self.old.replica.state.deleted self.old.segments) }
         ensures live { live_rows self.new.replica.state ≡ live_rows self.old.replica.state }

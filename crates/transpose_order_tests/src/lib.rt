@@ -2,4 +2,6 @@
 #![tactic(auto)]
 
 #[cfg(test)]
+mod readme_example;
+#[cfg(test)]
 mod tests;

@@ -8,10 +8,12 @@ ghost use Rattle.std.specs.Option.{option_cmp, option_eq};
 ghost use Rattle.std.specs.Ordering.{int_cmp, int_eq};
 ghost use Rattle.std.proofs.Common.{rules};
 ghost use Rattle.std.proofs.lemmas.Cmp.{int_cmp_total};
+ghost use Rattle.query_eval.specs.Cell.{cell_fed, cells_fed};
 ghost use Rattle.query_eval.specs.Tied.{cells_tied};
 
 use std::alloc::{AllocError, Global};
 use std::cmp::Ordering;
+use std::hash::{Hash, Hasher};
 use std::marker::Model;
 
 /// What a cell is kept as: null, a number of 64 bits, or a longer one, on the heap.
@@ -103,6 +105,20 @@ impl PartialEq for Cell {
 
 impl Eq for Cell {
     ghost laws = { Prim.search (comparing, rules) };
+}
+
+/// Cells are hashed by their numbers.
+impl Hash for Cell {
+    ghost hash_input = { cell_fed };
+
+    ghost respects_eq = { cells_fed };
+
+    fn hash<H: Hasher>(&self, state: &mut H) {
+        match self.number() {
+            None => state.write_u8(0),
+            Some(number) => state.write_i128(number),
+        }
+    }
 }
 
 /// Cells are compared by their numbers, null before every number.

@@ -3,6 +3,7 @@
 mod cell;
 mod code_slices;
 mod coded_runs;
+mod index;
 mod key;
 mod key_columns;
 mod places;

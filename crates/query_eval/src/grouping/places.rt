@@ -1,10 +1,15 @@
 //! Places of groups by their keys, and of the rows of a vector by their groups.
 ghost use Rattle.std.specs.Prelude.{◌≡◌, ◌∷◌, [], ◌⊎◌, ℕ, cond, length, slice_index_or, None, Some, IfOk};
+ghost use Rattle.std.specs.List.Sorted.{IsStrictlySortedBy};
+ghost use Rattle.std.specs.Map.{keys_of};
+ghost use Rattle.table_model.specs.Group.{key_cmp};
+ghost use Rattle.table_model.specs.State.{Cells};
+ghost use Rattle.query_eval.specs.Entries.{place_in};
 ghost use Rattle.query_eval.specs.Places.{IsIndex, IsTakenIn};
 
+use crate::grouping::index::Index;
 use crate::grouping::key::Key;
 use std::alloc::{AllocError, Global};
-use std::collections::BTreeMap;
 
 /// How many values are remembered with the places of their groups.
 const REMEMBERED: usize = 1024;
@@ -22,7 +27,7 @@ pub struct Recent {
 /// need a search.
 #[derive(Drop)]
 pub struct Places {
-    index: BTreeMap<Key, usize>,
+    index: Index,
     recent: Vec<Option<Recent>>,
     null: Option<usize>,
 }
@@ -46,10 +51,10 @@ impl Places {
     /// No places.
     pub fn new(alloc: Global) -> Result<Places, AllocError>
         ensures index { IfOk result (λ places. IsIndex places) }
-        ensures empty { IfOk result (λ places. places.index.entries ≡ []) }
+        ensures empty { IfOk result (λ places. places.index ≡ []) }
     {
         Ok(Places {
-            index: BTreeMap::new(alloc),
+            index: Index::new(alloc),
             recent: vec![in alloc; None; REMEMBERED]?,
             null: None,
         })
@@ -57,16 +62,18 @@ impl Places {
 
     /// How many groups there are.
     pub fn len(&self) -> usize
-        ensures { result ≡ length self.now.index.entries }
+        ensures { result ≡ length self.now.index }
     {
         self.index.len()
     }
 
     /// The keys in ascending order, with their places.
-    pub fn into_index(self) -> BTreeMap<Key, usize>
-        ensures { result ≡ self.index }
+    pub fn into_entries(self, alloc: Global) -> Result<Vec<(Key, usize)>, AllocError>
+        ensures ordered { IfOk result (λ entries. IsStrictlySortedBy key_cmp (keys_of entries.items)) }
+        ensures places { IfOk result (λ entries. (key : Cells) → place_in entries.items key ≡ place_in self.index key) }
+        ensures len { IfOk result (λ entries. length entries.items ≡ length self.index) }
     {
-        self.index
+        self.index.into_entries(alloc)
     }
 
     /// The place of a key's group, which is a new one if the key is new.
@@ -74,7 +81,7 @@ impl Places {
         ensures index { IfOk result (λ place. IsIndex self.old → IsIndex self.new) }
         ensures taken { IfOk result (λ place. IsTakenIn key.now place self.old.index self.new.index) }
     {
-        if let Some(place) = self.index.get(key).copied() {
+        if let Some(place) = self.index.get(key) {
             return Ok(place);
         }
         let place = self.index.len();

@@ -1,12 +1,11 @@
-//! The values of a column, each once, in a set.
-ghost use Rattle.std.specs.Prelude.{◌≡◌, ◌||◌, cond, true, ℤ, Some, IfOk, IfSome, OnOk};
-ghost use Rattle.std.specs.HashSet.{contains};
-ghost use Rattle.std.specs.List.{list_any, IsDistinct};
+//! The values of a column under DISTINCT, row by row.
+ghost use Rattle.std.specs.Prelude.{◌≡◌, ◌||◌, cond, true, ℤ, Some, IfSome, OnOk};
+ghost use Rattle.std.specs.List.{list_any};
 ghost use Rattle.std.specs.Ordering.{int_eq};
 ghost use Rattle.query_eval.specs.Slices.{values_at};
 
-use std::alloc::{AllocError, Global};
-use std::collections::HashSet;
+use crate::tallies::seen::Seen;
+use std::alloc::AllocError;
 use transpose_order::Mask;
 
 /// Whether a value is that of the row before, if there is one.
@@ -20,42 +19,34 @@ fn came_before(before: Option<i64>, value: i64) -> bool
     }
 }
 
-/// Adds a value to a set that has the value of the row before. If the two are the same, nothing is added.
+/// Adds a value to values that have that of the row before. If the two are the same, nothing is added.
 #[inline(always)]
-fn add_after(set: &mut HashSet<i64>, before: Option<i64>, value: i64) -> Result<(), AllocError>
-    requires { IfSome before (λ last. contains int_eq set.old last ≡ true) }
-    ensures values { OnOk result ((z : ℤ) → contains int_eq set.new z ≡ cond (int_eq value z) true (contains int_eq set.old z)) }
-    ensures there { OnOk result (contains int_eq set.new value ≡ true) }
+fn add_after(seen: &mut Seen, before: Option<i64>, value: i64) -> Result<(), AllocError>
+    requires { IfSome before (λ last. list_any (int_eq last) seen.old ≡ true) }
+    ensures values { OnOk result ((z : ℤ) → list_any (int_eq z) seen.new ≡ cond (int_eq value z) true (list_any (int_eq z) seen.old)) }
+    ensures there { OnOk result (list_any (int_eq value) seen.new ≡ true) }
 {
     if !came_before(before, value) {
-        set.insert(value)?;
+        seen.insert(value)?;
     }
     Ok(())
 }
 
-/// Adds the values at the rows of a mask to a set. A value that is that of the row before is not added again.
+/// Adds the values at the rows of a mask. A value that is that of the row before is not added again.
 pub(crate) fn add_values(
-    set: &mut HashSet<i64>,
+    seen: &mut Seen,
     rows: &Mask,
     values: &[i64; 1024],
 ) -> Result<(), AllocError>
-    ensures { OnOk result ((z : ℤ) → contains int_eq set.new z ≡ (contains int_eq set.old z || list_any (int_eq z) (values_at rows.now values.now))) }
+    ensures { OnOk result ((z : ℤ) → list_any (int_eq z) seen.new ≡ (list_any (int_eq z) seen.old || list_any (int_eq z) (values_at rows.now values.now))) }
 {
     let mut before = None;
     for row in 0..1024 {
         if rows.get(row) {
             let value = values[row];
-            add_after(set, before, value)?;
+            add_after(seen, before, value)?;
             before = Some(value);
         }
     }
     Ok(())
-}
-
-/// The values of a set, in any order.
-pub(crate) fn set_values(alloc: Global, set: &HashSet<i64>) -> Result<Vec<i64>, AllocError>
-    ensures values { IfOk result (λ values. values.items ≡ set.now.keys) }
-    ensures apart { IsDistinct int_eq set.now.keys }
-{
-    set.iter().copied().collect(alloc)
 }

@@ -3,7 +3,8 @@ ghost use Rattle.std.specs.Prelude.{◌≡◌, ◌<◌, ◌≤◌, ℕ, List, No
 ghost use Rattle.std.specs.Global.{Vec as Items};
 ghost use Rattle.std.specs.Option.{IfSome};
 ghost use Rattle.query_eval.specs.declared.tallies.tally.Tally.{Tally as ATally};
-ghost use Rattle.std.specs.BTreeMap.{IsOrdered, keys};
+ghost use Rattle.std.specs.List.Sorted.{IsStrictlySortedBy};
+ghost use Rattle.std.specs.Map.{keys_of};
 ghost use Rattle.table_model.specs.Group.{key_cmp};
 ghost use Rattle.table_model.specs.State.{Cells};
 ghost use Rattle.table_model.specs.Table.{Table};
@@ -20,7 +21,6 @@ use crate::tallies::groups::Groups;
 use crate::tallies::plan::Plan;
 use crate::tallies::tally::Tally;
 use std::alloc::{AllocError, Global};
-use std::collections::BTreeMap;
 use table_model::{Field, Fold};
 
 /// The value of an aggregate by its tally.
@@ -68,25 +68,20 @@ fn values_of(
     Ok(fields)
 }
 
-/// The groups in ascending order of their keys.
-fn in_order(
+/// The groups of entries, in the order of these.
+fn groups_of_entries(
     alloc: Global,
     aggregates: &[Aggregate],
-    index: &mut BTreeMap<Key, usize>,
+    entries: Vec<(Key, usize)>,
     tallies: &[Vec<Tally>],
 ) -> Result<Vec<FinishedGroup>, AllocError>
-    ensures ordered { IsOrdered key_cmp index.old }
-    ensures value { IfOk result (λ finished. AreFinished aggregates.now index.old tallies.now finished.items) }
+    requires { IsStrictlySortedBy key_cmp (keys_of entries.items) }
+    ensures { IfOk result (λ finished. AreFinished aggregates.now entries.items tallies.now finished.items) }
 {
-    let mut finished = Vec::with_capacity(alloc, index.len())?;
-    for _ in 0..index.len() {
-        match index.pop_first() {
-            None => {}
-            Some((key, place)) => {
-                let fields = values_of(alloc, aggregates, tallies, place)?;
-                finished.push(FinishedGroup::new(key, fields))?;
-            }
-        }
+    let mut finished = Vec::with_capacity(alloc, entries.len())?;
+    for (key, place) in entries {
+        let fields = values_of(alloc, aggregates, tallies, place)?;
+        finished.push(FinishedGroup::new(key, fields))?;
     }
     Ok(finished)
 }
@@ -99,12 +94,7 @@ pub fn grouped_table(
 ) -> Result<Vec<FinishedGroup>, AllocError>
     ensures { IfOk result (λ finished. AreAllFinished plan.now groups finished.items) }
 {
-    let mut index = groups.places.into_index();
-    let finished = in_order(
-        alloc,
-        plan.aggregates(),
-        &mut index,
-        groups.tallies.as_slice(),
-    )?;
+    let entries = groups.places.into_entries(alloc)?;
+    let finished = groups_of_entries(alloc, plan.aggregates(), entries, groups.tallies.as_slice())?;
     Ok(finished)
 }

@@ -35,7 +35,7 @@ fn no_tallies(alloc: Global, aggregates: &[Aggregate]) -> Result<Vec<Vec<Tally>>
 
 impl Groups {
     /// No groups.
-    pub fn none(alloc: Global, aggregates: &[Aggregate]) -> Result<Groups, AllocError>
+    pub(crate) fn none(alloc: Global, aggregates: &[Aggregate]) -> Result<Groups, AllocError>
         ensures index { IfOk result (λ groups. IsIndex groups.places) }
         ensures groups { IfOk result (λ groups. (by : List ℕ) → AreGroups by aggregates.now [] groups.places.index groups.tallies.items) }
     {

@@ -15,11 +15,12 @@ ghost use Rattle.table_model.specs.declared.extreme.Extreme.{Extreme as AnExtrem
 ghost use Rattle.query_eval.specs.declared.tallies.tally.TallyKind.TheVariants as kinds;
 ghost use Rattle.query_eval.specs.TallyKinds.{fold_kind};
 
-use crate::tallies::distinct::{add_values, set_values};
+use crate::tallies::distinct::add_values;
 use crate::tallies::field_values::{sum_field, values_field, whole_field};
 use crate::tallies::masked_folds::{count_at, extreme_at, sum_at};
+use crate::tallies::seen::Seen;
+use crate::tallies::two_words::TwoWords;
 use std::alloc::{AllocError, Global};
-use std::collections::HashSet;
 use table_model::{Extreme, Field, Fold, MAX_STATE_ROWS, MILLION};
 use transpose_order::Mask;
 
@@ -33,10 +34,10 @@ pub enum TallyKind {
 }
 
 /// How many values there are, and their sum.
-#[derive(Clone, Copy, Debug)]
+#[derive(Drop)]
 pub struct Sums {
     count: u64,
-    sum: i128,
+    sum: TwoWords,
 }
 
 /// A set function under way: what it needs of the values so far.
@@ -51,17 +52,7 @@ pub enum Tally {
     /// The least or the greatest value, `None` of no values.
     Extreme(Extreme, Option<i64>),
     /// The values, each once, under DISTINCT: on the heap, so that the other tallies stay small.
-    Distinct(Box<HashSet<i64>>),
-}
-
-/// The sum of two values if 128 bits hold it, otherwise the first.
-fn added(a: i128, b: i128) -> i128
-    ensures { FitsSigned w128 (a +ℤ b) → result ≡ a +ℤ b }
-{
-    match a.checked_add(b) {
-        None => a,
-        Some(sum) => sum,
-    }
+    Distinct(Box<Seen>),
 }
 
 /// The value if there is one, otherwise 0.
@@ -71,27 +62,19 @@ fn value_or_zero(value: i64, comes: bool) -> i64
     if comes { value } else { 0 }
 }
 
-/// Adds a value to a set.
-fn insert(seen: &mut HashSet<i64>, value: i64) -> Result<(), AllocError>
-    ensures { OnOk result ((z : ℤ) → list_any (int_eq z) seen.new.keys ≡ cond (int_eq value z) true (list_any (int_eq z) seen.old.keys)) }
-{
-    seen.insert(value)?;
-    Ok(())
-}
-
 impl Sums {
     /// How many values there are.
-    pub fn count(self) -> u64
-        ensures { result ≡ self.count }
+    pub fn count(&self) -> u64
+        ensures { result ≡ self.now.count }
     {
         self.count
     }
 
     /// The sum of the values.
-    pub fn sum(self) -> i128
-        ensures { result ≡ self.sum }
+    pub fn sum(&self) -> i128
+        ensures { result ≡ self.now.sum }
     {
-        self.sum
+        self.sum.number()
     }
 
     /// Takes in one value more.
@@ -99,7 +82,7 @@ impl Sums {
         ensures { (values : List ℤ) → AreTold values self.old → AreTold (values ++ value ∷ []) self.new }
     {
         self.count = self.count.saturating_add(1);
-        self.sum = added(self.sum, i128::from(value));
+        self.sum.add(i128::from(value));
     }
 
     /// Takes in one more value if there is one. There is no branch on that, since it can't be predicted at columns with nulls.
@@ -108,7 +91,7 @@ impl Sums {
     {
         let more = value_or_zero(value, comes);
         self.count = self.count.saturating_add(u64::from(comes));
-        self.sum = added(self.sum, i128::from(more));
+        self.sum.add(i128::from(more));
     }
 
     /// Takes in this many more values, with this sum.
@@ -116,7 +99,7 @@ impl Sums {
         ensures { (values more : List ℤ) → count ≡ length more → sum ≡ total more → AreTold values self.old → AreTold (values ++ more) self.new }
     {
         self.count = self.count.saturating_add(count as u64);
-        self.sum = added(self.sum, sum);
+        self.sum.add(sum);
     }
 
     /// Takes in the values at the rows of a mask, which are short if `short` says so.
@@ -128,25 +111,25 @@ impl Sums {
     }
 
     /// AVG of the values if the fold is that, otherwise SUM.
-    fn field(self, fold: Fold) -> Field
-        ensures { (values : List ℤ) → length values ≤ state_row_limit → AreSmall values → AreTold values self → kinds.Sum ≡ fold_kind false fold → result ≡ fold_value fold values }
+    fn field(&self, fold: Fold) -> Field
+        ensures { (values : List ℤ) → length values ≤ state_row_limit → AreSmall values → AreTold values self.now → kinds.Sum ≡ fold_kind false fold → result ≡ fold_value fold values }
     {
         match fold {
             Fold::Avg => self.mean(),
             Fold::Count | Fold::Sum | Fold::Min | Fold::Max => {
-                sum_field(u128::from(self.count), self.sum)
+                sum_field(u128::from(self.count), self.sum())
             }
         }
     }
 
     /// The mean in millionths, truncated toward zero; null of no values.
-    fn mean(self) -> Field
-        ensures { (values : List ℤ) → length values ≤ state_row_limit → AreSmall values → AreTold values self → result ≡ fold_value Fold.Avg values }
+    fn mean(&self) -> Field
+        ensures { (values : List ℤ) → length values ≤ state_row_limit → AreSmall values → AreTold values self.now → result ≡ fold_value Fold.Avg values }
     {
         if self.count == 0 {
             return Field::Null;
         }
-        match self.sum.checked_mul(MILLION) {
+        match self.sum().checked_mul(MILLION) {
             None => Field::Null,
             Some(millionths) => Field::Millionths(millionths / i128::from(self.count)),
         }
@@ -154,10 +137,10 @@ impl Sums {
 }
 
 /// A set function of a set's values, which are at most 2^32.
-fn set_field(alloc: Global, fold: Fold, seen: &HashSet<i64>) -> Result<Field, AllocError>
-    ensures { IfOk result (λ field. (values : List ℤ) → length values ≤ state_row_limit → AreAlike seen.now.keys values → field ≡ fold_value fold (distinct values)) }
+fn set_field(alloc: Global, fold: Fold, seen: &Seen) -> Result<Field, AllocError>
+    ensures { IfOk result (λ field. (values : List ℤ) → length values ≤ state_row_limit → AreAlike seen.now values → field ≡ fold_value fold (distinct values)) }
 {
-    let values = set_values(alloc, seen)?;
+    let values = seen.values(alloc)?;
     if values.len() > MAX_STATE_ROWS {
         return Ok(Field::Null);
     }
@@ -175,17 +158,20 @@ fn is_reached(extreme: Extreme, value: Option<i64>, bound: i64) -> bool
 }
 
 impl Tally {
-    /// The set function of no values. Only DISTINCT takes memory, for its set.
+    /// The set function of no values. Only DISTINCT takes memory, for its values.
     pub fn new(alloc: Global, kind: TallyKind) -> Result<Tally, AllocError>
         ensures values { IfOk result (λ tally. IsTally [] tally) }
         ensures kind { IfOk result (λ tally. kind_of tally ≡ kind) }
     {
         match kind {
             TallyKind::Count => Ok(Tally::Count(0)),
-            TallyKind::Sum => Ok(Tally::Sum(Sums { count: 0, sum: 0 })),
+            TallyKind::Sum => Ok(Tally::Sum(Sums {
+                count: 0,
+                sum: TwoWords::of(0),
+            })),
             TallyKind::Extreme(extreme) => Ok(Tally::Extreme(extreme, None)),
             TallyKind::Distinct => {
-                let seen = Box::new(alloc, HashSet::new(alloc))?;
+                let seen = Box::new(alloc, Seen::new(alloc))?;
                 Ok(Tally::Distinct(seen))
             }
         }
@@ -272,7 +258,7 @@ impl Tally {
             Tally::Count(count) => *count = count.saturating_add(1),
             Tally::Sum(sums) => sums.add(value),
             Tally::Extreme(extreme, before) => *before = extreme.further(*before, Some(value)),
-            Tally::Distinct(seen) => insert(seen, value)?,
+            Tally::Distinct(seen) => seen.insert(value)?,
         }
         Ok(())
     }

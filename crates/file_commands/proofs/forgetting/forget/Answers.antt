@@ -2,7 +2,7 @@ use Rattle.std.specs.Prelude.{◌≢◌, ℕ, List, [], ◌==◌, not, Ok}
 use Rattle.std.proofs.Common.{ap, sym, refl, ◌∙◌, Bor}
 use Rattle.std.proofs.lemmas.Result.{err_from_is_err_and}
 use Rattle.replica_files.specs.Forgetting.{forgetting}
-use Rattle.replica_files.specs.declared.forgetting.Forgotten.{Forgotten}
+use Rattle.replica_store.specs.declared.forgotten.Forgotten.{Forgotten}
 use Rattle.file_replacing.proofs.LongerNames.{longer_is_other}
 use Rattle.file_replacing.proofs.Locks.{stays_old}
 use Rattle.file_commands.proofs.CrashProofs.{leaves, refused_so, any_at, answered_at, read_then_left}

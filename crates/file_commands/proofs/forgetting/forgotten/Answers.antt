@@ -2,7 +2,7 @@ use Rattle.std.specs.Prelude.{ℕ, List, ◌==◌, not, Ok}
 use Rattle.std.specs.Global.{Vec}
 use Rattle.std.proofs.Common.{ap, sym, refl, ◌∙◌, Bor}
 use Rattle.replica_files.specs.Forgetting.{forgetting}
-use Rattle.replica_files.specs.declared.forgetting.Forgotten.{Forgotten}
+use Rattle.replica_store.specs.declared.forgotten.Forgotten.{Forgotten}
 use Rattle.file_commands.proofs.CrashProofs.{changes_at}
 use Rattle.file_commands.proofs.Whys.{refused_at}
 use Rattle.file_commands.proofs.forgetting.forgotten.Goals as goal

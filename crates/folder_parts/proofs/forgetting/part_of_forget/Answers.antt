@@ -1,8 +1,8 @@
 -- What is left of the store is written where a batch was dropped.
-use Rattle.std.proofs.Common.{◌≡◌, refl, not, ◌==◌, ℕ, Bool}
+use Rattle.std.proofs.Common.{refl, not, ◌==◌, ℕ, Bool}
 use Rattle.std.proofs.lemmas.Result.{err_from_is_err_and}
 use Rattle.replica_files.specs.Forgetting.{forgetting}
-use Rattle.replica_files.specs.declared.forgetting.Forgotten.{Forgotten}
+use Rattle.replica_store.specs.declared.forgotten.Forgotten.{Forgotten}
 use Rattle.folder_parts.proofs.ForgottenFolders.{forget_appends}
 use Rattle.folder_parts.proofs.Puts.{puts_refused, puts_unwritten, puts_written}
 use Rattle.folder_parts.proofs.forgetting.part_of_forget.Goals as goal

@@ -1,5 +1,4 @@
 -- Which refusals a part's bytes have.
-use Rattle.std.proofs.Common.{refl}
 use Rattle.std.proofs.lemmas.Result.{err_from_is_err_and}
 use Rattle.replica_store.specs.Segments.{StoreForm}
 use Rattle.folder_parts.proofs.PartsInTurn.{open_listed}

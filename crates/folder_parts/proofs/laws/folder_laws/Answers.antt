@@ -1,5 +1,6 @@
 -- The laws of files are those of folders.
 use Rattle.replica_files.proofs.FileLaws.{file_laws_hold}
+use Rattle.folder_parts.proofs.IdleLoads.{load_idle}
 use Rattle.folder_parts.proofs.FolderSets.{same_folders, join_holds, pack_keeps, folder_is_file, folder_follows}
 use Rattle.folder_parts.proofs.PackedAway.{packed_covered, packs_lose_nothing}
 use Rattle.folder_parts.proofs.PartsBring.{load_holds, named_brings, deletes_hold, rows_hold, offers_bring}
@@ -17,6 +18,7 @@ returns c = record {
   parts = record {
     load = load_holds;
     named = named_brings;
+    idle = load_idle;
     deletes = deletes_hold;
     rows = rows_hold;
     offers = offers_bring;

@@ -1,5 +1,5 @@
 -- The load is put into a store that is empty.
-use Rattle.std.proofs.Common.{◌≡◌, ◌∙◌, inr}
+use Rattle.std.proofs.Common.{◌∙◌, inr}
 use Rattle.std.proofs.lemmas.Result.{err_from_is_err_and}
 use Rattle.replica_files.proofs.CommandSteps.{new_lacks}
 use Rattle.folder_parts.proofs.Puts.{alone_is, alone_refused}

@@ -1,5 +1,5 @@
 -- The load's store is written.
-use Rattle.std.proofs.Common.{◌≡◌, refl, not, ◌==◌}
+use Rattle.std.proofs.Common.{refl, not, ◌==◌}
 use Rattle.std.proofs.lemmas.Result.{err_from_is_err_and}
 use Rattle.replica_files.specs.declared.importing.Imported.{Imported}
 use Rattle.folder_parts.specs.PartsPut.{part_of_load}

@@ -1,5 +1,5 @@
 -- One part after another is joined.
-use Rattle.std.proofs.Common.{◌<◌, ◌≤◌, length, sym, arith}
+use Rattle.std.proofs.Common.{sym, arith}
 use Rattle.replica_files.proofs.FileMerges.{long_as}
 use Rattle.folder_parts.proofs.JoinedSoFar.{joined_next, joined_stops, joined_all}
 use Rattle.folder_parts.proofs.PartsInTurn.{part_next, others_stop, parts_read}

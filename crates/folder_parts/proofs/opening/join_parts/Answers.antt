@@ -1,7 +1,6 @@
 -- The store is that of the join.
-use Rattle.std.proofs.Common.{◌∙◌, Ok}
+use Rattle.std.proofs.Common.{◌∙◌}
 use Rattle.std.proofs.lemmas.Result.{err_from_is_err_and}
-use Rattle.replica_store.specs.Replica.{Replica}
 use Rattle.replica_store.specs.Segments.{StoreForm}
 use Rattle.folder_parts.proofs.PartsInTurn.{all_refused, all_lack, lack_of}
 use Rattle.folder_parts.proofs.opening.join_parts.Goals as goal

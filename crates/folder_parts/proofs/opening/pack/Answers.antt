@@ -1,7 +1,6 @@
 -- What all parts hold is written, or a part is at fault.
 use Rattle.std.proofs.Common.{refl, inl}
 use Rattle.std.proofs.lemmas.Result.{err_from_is_err_and}
-use Rattle.replica_store.specs.Segments.{StoreForm}
 use Rattle.folder_parts.proofs.PartsInTurn.{parts_refused, pack_unwritten}
 use Rattle.folder_parts.proofs.WholeFolders.{packs_unwritten}
 use Rattle.folder_parts.proofs.opening.pack.Goals as goal

@@ -1,5 +1,5 @@
 -- A name is among those that strings have.
-use Rattle.std.proofs.Common.{◌≡◌, ◌∙◌, sym, string_bytes}
+use Rattle.std.proofs.Common.{◌∙◌, sym, string_bytes}
 use Rattle.table_model.specs.Identifier.{same_text}
 use Rattle.folder_parts.proofs.Removed.{removed_is}
 use Rattle.folder_parts.proofs.packing.is_removed.Goals as goal

@@ -1,6 +1,6 @@
 -- Each part is counted in its turn.
-use Rattle.std.proofs.Common.{◌≡◌, ◌≤◌, ℕ, ◌+◌, ◌*◌, arith, sym}
-use Rattle.folder_parts.proofs.PackedSoFar.{PackedSoFar, packed_none, packed_next, packed_all}
+use Rattle.std.proofs.Common.{◌≤◌, arith, sym}
+use Rattle.folder_parts.proofs.PackedSoFar.{packed_none, packed_next, packed_all}
 use Rattle.folder_parts.proofs.packing.packed_prefix.Goals as goal
 
 pub loop-index-init : goal.loop-index-init

@@ -1,12 +1,13 @@
 -- One group more.
-use Rattle.std.proofs.Common.{◌≡◌, ◌<◌, Bool, Some, None, [], length, sym, ap, subst, ◌∙◌, arith}
-use Rattle.std.specs.BTreeMap.{get, is_at}
-use Rattle.std.specs.Map.{lookup}
-use Rattle.std.specs.Option.{is_some}
+use Rattle.std.proofs.Common.{◌≡◌, ◌∷◌, Bool, List, Some, [], cond, length, None, rules, sym, ap, subst, ◌∙◌, arith}
+use Rattle.std.specs.List.Sorted.{IsStrictlySortedBy}
+use Rattle.std.specs.Map.{keys_of}
 use Rattle.std.specs.Ordering.{eq_by_cmp}
-use Rattle.std.proofs.lemmas.Bool.{false≢true}
+use Rattle.std.proofs.lemmas.Map.Keys.{sorted_tail}
 use Rattle.table_model.specs.Group.{key_cmp}
 use Rattle.table_model.specs.State.{Cells}
+use Rattle.table_model.proofs.SameRows.{itself_row}
+use Rattle.query_eval.specs.Entries.{Entries, place_in}
 use Rattle.query_eval.proofs.OrderLemmas.{place_left}
 use Rattle.query_eval.specs.declared.tallies.tally.Tally.{Tally as Running}
 use Rattle.query_eval.specs.declared.tallies.tally.Tally.TheVariants as running
@@ -14,47 +15,43 @@ use Rattle.partial_answers.specs.Evaluated.{told_places}
 use Rattle.partial_answers.specs.Groups.{tallies_at}
 use Rattle.partial_answers.specs.Kept.{tallies_in}
 use Rattle.partial_answers.specs.Kinds.{AllKeep}
-use Rattle.partial_answers.specs.Refusing.{KeptGroups}
 use Rattle.partial_answers.proofs.Combined.{one_key}
-use Rattle.partial_answers.proofs.PlacesTold.{first_told, taken_place, place_moved, nothing_left}
+use Rattle.partial_answers.proofs.PlacesTold.{first_left, first_told, taken_place, place_moved, nothing_left}
 use Rattle.partial_answers.proofs.ShownGroups.{empty}
 use Rattle.partial_answers.proofs.told.groups_at.Goals as goal
-use Rattle.partial_answers.proofs.told.groups_at.Goals.{in-None, in-Some+in_ok-kept-in-Some+in_ok-put_group-in-Some}
 
-pub loop-preserved : goal.loop-preserved
-loop-preserved c =
-    elim c.match-pop_first.branch [
-      | in-None w ↦
-          let some : 0 < length c.loop.index.entries = omega (arith, c.loop.invariant.count, c.loop-test.true, c.len-end.ensures.len) in
-          absurd (false≢true (sym (ap is_some w.in-None.is) ∙ c.pop_first.ensures.variant.1 some))
-      | in-Some+in_ok-kept-in-Some+in_ok-put_group-in-Some w ↦
-          let removal = w.in-Some.ensures.removal in
-          let key : Cells = w.in-Some.key in
-          record {
-            count = omega (arith, c.loop.invariant.count, ap length removal);
-            kept = λ k place e. c.loop.invariant.kept k place (place_left _ _ _ (w.in-Some.ensures.updates.0 k) place e);
-            told = λ t h k.
-                let columns = c.args.tallies.now in
-                let b : Bool = eq_by_cmp key_cmp key k in
-                let there = w.in-Some.ensures.value in
-                let is = w.in_ok-kept-in-Some.ensures.value t (h key w.in-Some.place (c.loop.invariant.kept key w.in-Some.place there)) in
-                let here = ap (told_places columns t) there ∙ ap Some (sym is) in
-                ap (λ m. first_told (tallies_at m k) (told_places columns t (get key_cmp c.pop_first.new.self k))) w.made-is
-                ∙ (λ i. first_told (w.in_ok-put_group-in-Some.ensures.put k i) ((ap (told_places columns t) (w.in-Some.ensures.updates.0 k) ∙ taken_place columns t b _) i))
-                ∙ place_moved b (tallies_at c.loop.made k) (told_places columns t (get key_cmp c.loop.index key)) (told_places columns t (get key_cmp c.loop.index k)) (tallies_in w.in_ok-kept-in-Some.kept.items) here
-                (λ tied. ap (λ q. told_places columns t (get key_cmp c.loop.index q)) (sym (one_key key k tied)))
-                (λ tied. c.loop.invariant.told t h k ∙ ap (λ q. told_places columns t (get key_cmp c.args.index.now q)) (sym (one_key key k tied)) ∙ ap (told_places columns t) (c.loop.invariant.kept key w.in-Some.place there) ∙ sym (ap (told_places columns t) there))
-                ∙ c.loop.invariant.told t h k;
-            kinds = λ kinds h asked.
-                let t : Running = running.Count 0 in
-                let at = c.loop.invariant.kept key w.in-Some.place w.in-Some.ensures.value in
-                let here = w.in_ok-kept-in-Some.ensures.kinds t (h key w.in-Some.place at) ∙ asked key w.in-Some.place t at in
-                subst (λ (m : KeptGroups). AllKeep kinds m) (sym w.made-is) (w.in_ok-put_group-in-Some.ensures.kinds kinds (c.loop.invariant.kinds kinds h asked) here);
-          }
-    ]
+pub loop-key-preserved : goal.loop-key-preserved
+loop-key-preserved c =
+    let key : Cells = c.in-Some.key in
+    let place = c.in-Some.place in
+    let rest = c.loop-key.key-iterator.rest.items in
+    let next = c.next.new.self.rest.items in
+    let step : rest ≡ (key, place) ∷ next = c.in-Some.ensures.steps.0 in
+    let up = subst (λ (es : Entries). IsStrictlySortedBy key_cmp (keys_of es)) step c.loop-key.invariant.up in
+    let there : place_in rest key ≡ Some place = ap (λ (es : Entries). place_in es key) step ∙ ap (λ b. cond b (Some place) (place_in next key)) (itself_row key) in
+    let left : (k : Cells) → place_in next k ≡ cond (eq_by_cmp key_cmp key k) None (place_in rest k) = λ k. first_left key place next up k ∙ ap (λ (es : Entries). cond (eq_by_cmp key_cmp key k) None (place_in es k)) (sym step) in
+    record {
+      up = sorted_tail key_cmp key (keys_of next) up;
+      kept = λ k p e. c.loop-key.invariant.kept k p (place_left _ _ _ (left k) p e);
+      told = λ t h k.
+          let columns = c.args.tallies.now in
+          let b : Bool = eq_by_cmp key_cmp key k in
+          let is = c.in_ok-kept.ensures.value t (h key place (c.loop-key.invariant.kept key place there)) in
+          let here = ap (told_places columns t) there ∙ ap Some (sym is) in
+          (λ i. first_told (c.in_ok-put_group.ensures.put k i) ((ap (told_places columns t) (left k) ∙ taken_place columns t b _) i))
+          ∙ place_moved b (tallies_at c.loop-key.made k) (told_places columns t (place_in rest key)) (told_places columns t (place_in rest k)) (tallies_in c.in_ok-kept.kept.items) here
+          (λ tied. ap (λ q. told_places columns t (place_in rest q)) (sym (one_key key k tied)))
+          (λ tied. c.loop-key.invariant.told t h k ∙ ap (λ q. told_places columns t (place_in c.args.entries.items q)) (sym (one_key key k tied)) ∙ ap (told_places columns t) (c.loop-key.invariant.kept key place there) ∙ sym (ap (told_places columns t) there))
+          ∙ c.loop-key.invariant.told t h k;
+      kinds = λ kinds h asked.
+          let t : Running = running.Count 0 in
+          let at = c.loop-key.invariant.kept key place there in
+          let here = c.in_ok-kept.ensures.kinds t (h key place at) ∙ asked key place t at in
+          c.in_ok-put_group.ensures.kinds kinds (c.loop-key.invariant.kinds kinds h asked) here;
+    }
 
 pub returns-clause-value : goal.returns-clause-value
 returns-clause-value c = λ t h k.
-    let none : c.loop.index.entries ≡ [] = empty c.loop.index.entries (omega (arith, c.loop.invariant.count, c.loop-test.false, c.loop.auto.counter-end, c.len-end.ensures.len)) in
-    let gone : get key_cmp c.loop.index k ≡ None = ap (λ es. lookup (is_at (key_cmp k)) es) none in
-    sym (nothing_left (tallies_at c.loop.made k)) ∙ sym (ap (λ o. first_told (tallies_at c.loop.made k) (told_places c.args.tallies.now t o)) gone) ∙ c.loop.invariant.told t h k
+    let long : length c.loop-key.key-iterator.rest.items ≡ 0 = search rules in
+    let none : c.loop-key.key-iterator.rest.items ≡ [] = empty c.loop-key.key-iterator.rest.items long in
+    sym (nothing_left (tallies_at c.loop-key.made k)) ∙ sym (ap (λ (es : Entries). first_told (tallies_at c.loop-key.made k) (told_places c.args.tallies.now t (place_in es k))) none) ∙ c.loop-key.invariant.told t h k

@@ -1,7 +1,7 @@
 -- One answer after another is written, up to the first query that is refused.
-use Rattle.std.proofs.Common.{◌≡◌, ◌∙◌, ◌+◌, ℕ, List, [], Bor, map, drop, take, get_or, refl}
+use Rattle.std.proofs.Common.{◌∙◌, ◌+◌, ℕ, List, [], Bor, map, drop, get_or}
 use Rattle.replica_files.specs.Asking.{answers_report, answered_in}
-use Rattle.replica_files.proofs.AskedTexts.{query_at, none_refused, so_far_at, so_far_next, so_far_stops, answer_fault}
+use Rattle.replica_files.proofs.AskedTexts.{none_refused, so_far_at, so_far_next, so_far_stops, answer_fault}
 use Rattle.replica_files.proofs.answers.answer_all.Goals as goal
 
 pub returns-in-Err-clause-told : goal.returns-in-Err-clause-told

@@ -1,5 +1,5 @@
 -- What is told is what the store has then.
-use Rattle.std.proofs.Common.{◌≡◌, ◌∙◌, ◌-◌}
+use Rattle.std.proofs.Common.{◌∙◌, ◌-◌}
 use Rattle.replica_files.proofs.StoreCommands.{told_applied}
 use Rattle.replica_files.proofs.applying.apply_offers.Goals as goal
 

@@ -1,5 +1,4 @@
 -- The batch's live rows are counted by their ordinals.
-use Rattle.std.proofs.Common.{◌≡◌, ◌≤◌, arith}
 use Rattle.replica_files.proofs.CountedBatches.{count_is}
 use Rattle.replica_files.proofs.batch_counts.counts_at.Goals as goal
 

@@ -1,6 +1,5 @@
 -- A vector's live rows are those of its mask; past the last vector no row is left.
-use Rattle.std.proofs.Common.{◌≡◌, ◌≤◌, ◌+◌, ◌-◌, ◌*◌, ◌∙◌, min, sym, arith}
-use Rattle.transpose_order.specs.Mask.{count_below}
+use Rattle.std.proofs.Common.{◌≤◌, ◌+◌, ◌*◌, ◌∙◌, sym, arith}
 use Rattle.transpose_order.proofs.MaskLemmas.{count_below-zero, count_below-le}
 use Rattle.replica_files.specs.Counts.{is_live_at}
 use Rattle.replica_files.proofs.BatchCounting.{live_more, live_few, live_end}

@@ -1,5 +1,5 @@
 -- The live rows of one batch more are counted; at the end none is left.
-use Rattle.std.proofs.Common.{◌≡◌, ◌≤◌, ◌∙◌, length, sym, arith}
+use Rattle.std.proofs.Common.{◌≤◌, ◌∙◌, length, arith}
 use Rattle.replica_files.specs.Counts.{batch_counts}
 use Rattle.replica_files.proofs.CountedBatches.{live_next, live_end, live-live_rows, length-batch_counts}
 use Rattle.replica_files.proofs.batch_counts.live_in.Goals as goal

@@ -1,5 +1,5 @@
 -- One line more is told; at the end none is left.
-use Rattle.std.proofs.Common.{◌≡◌, ◌≤◌, ◌++◌, ◌+◌, ◌∙◌, ℕ, List, drop, length, sym, ap, arith}
+use Rattle.std.proofs.Common.{◌≡◌, ◌≤◌, ◌++◌, ◌+◌, ◌∙◌, ℕ, List, drop, length, ap, arith}
 use Rattle.std.specs.List.{flat_map}
 use Rattle.replica_files.specs.Counts.{batch_counts, batch_list, batch_line}
 use Rattle.replica_files.proofs.CountedBatches.{lines_next, lines_end, length-batch_counts}

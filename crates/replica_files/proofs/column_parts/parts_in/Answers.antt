@@ -1,5 +1,5 @@
 -- One vector more is counted; at the end none is left.
-use Rattle.std.proofs.Common.{◌≡◌, ◌≤◌, ◌+◌, ◌∙◌, [], ◌∷◌, List, length, ap, arith}
+use Rattle.std.proofs.Common.{◌≤◌, ◌∙◌, [], List, length, ap, arith}
 use Rattle.std.specs.Prelude.{slice_index_or}
 use Rattle.std.proofs.lemmas.List.{take_all}
 use Rattle.segment_core.specs.CodedVector.{VectorForm}

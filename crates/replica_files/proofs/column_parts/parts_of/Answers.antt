@@ -1,9 +1,9 @@
 -- The vectors of one batch more are counted; at the end none is left.
-use Rattle.std.proofs.Common.{◌≡◌, ◌≤◌, ◌<◌, ◌+◌, ◌*◌, ◌∙◌, List, length, ap, arith}
+use Rattle.std.proofs.Common.{◌≤◌, ◌+◌, ◌*◌, ◌∙◌, List, length, ap, arith}
 use Rattle.std.specs.FinMap as map
 use Rattle.std.proofs.lemmas.List.{take_all}
 use Rattle.replica_store.specs.Segments.{Entry}
-use Rattle.replica_files.specs.ColumnFigures.{IsAtMost, column_vectors, parts_in}
+use Rattle.replica_files.specs.ColumnFigures.{column_vectors, parts_in}
 use Rattle.replica_files.proofs.VectorParts.{batch_next, most_joined, most_of, few_of, columns_long, entries_long}
 use Rattle.replica_files.proofs.column_parts.parts_of.Goals as goal
 

@@ -1,5 +1,5 @@
 -- One member more; at the end none is left.
-use Rattle.std.proofs.Common.{◌≡◌, ◌∙◌, ◌++◌, [], ◌∷◌, ℕ, ◌<◌, ◌≤◌, ◌⊎◌, Bool, nat_lt, List, length, get_or, ap, refl, arith}
+use Rattle.std.proofs.Common.{◌∙◌, ◌++◌, [], ◌∷◌, ℕ, ◌<◌, ◌≤◌, ◌⊎◌, nat_lt, List, length, ap, refl, arith}
 use Rattle.std.proofs.lemmas.Grind.{common_steps}
 use Rattle.answer_formats.specs.Formats.{separated}
 use Rattle.answer_formats.proofs.TextFormats.{next_written}

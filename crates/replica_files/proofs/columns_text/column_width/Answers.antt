@@ -1,5 +1,5 @@
 -- One line more.
-use Rattle.std.proofs.Common.{◌≡◌, ◌∙◌, [], ℕ, List, length, get_or, ap, max, arith}
+use Rattle.std.proofs.Common.{◌≡◌, [], length, get_or, max, arith}
 use Rattle.std.proofs.lemmas.Grind.{common_steps}
 use Rattle.replica_files.proofs.LinesInColumns.{widest_next}
 use Rattle.replica_files.proofs.columns_text.column_width.Goals as goal

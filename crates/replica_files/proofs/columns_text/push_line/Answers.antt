@@ -1,5 +1,5 @@
 -- One text more; then the line is ended.
-use Rattle.std.proofs.Common.{◌≡◌, ◌∙◌, [], ◌∷◌, ℕ, ◌<◌, ◌≤◌, ◌⊎◌, List, length, get_or, ap, arith}
+use Rattle.std.proofs.Common.{◌∙◌, [], ◌∷◌, ℕ, ◌<◌, ◌≤◌, ◌⊎◌, List, length, get_or, ap, arith}
 use Rattle.std.proofs.lemmas.Grind.{common_steps}
 use Rattle.answer_formats.specs.Formats.{to_the_right, in_columns}
 use Rattle.answer_formats.proofs.TextFormats.{next_written, columns_below, column_at, columns_end, line_ended}

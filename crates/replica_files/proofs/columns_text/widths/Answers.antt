@@ -1,5 +1,5 @@
 -- One column more; at the end there is none left.
-use Rattle.std.proofs.Common.{◌≡◌, ◌∙◌, [], ℕ, ◌<◌, List, length, get_or, ap, arith}
+use Rattle.std.proofs.Common.{◌<◌, length, ap, arith}
 use Rattle.std.proofs.lemmas.Grind.{common_steps}
 use Rattle.replica_files.proofs.LinesInColumns.{widths_next}
 use Rattle.replica_files.proofs.columns_text.widths.Goals as goal

@@ -1,5 +1,5 @@
 -- The file is read, the command acts on its replica, and the file is written anew where that changed.
-use Rattle.std.proofs.Common.{◌≡◌, ℕ, List, not, ◌==◌, refl, arith}
+use Rattle.std.proofs.Common.{refl, arith}
 use Rattle.std.proofs.lemmas.Result.{err_from_is_err_and}
 use Rattle.replica_store.specs.Segments.{StoreForm}
 use Rattle.replica_store.specs.Replica.{Replica, deleted_rows}

@@ -1,10 +1,10 @@
 -- All columns are chosen, and no condition.
-use Rattle.std.proofs.Common.{◌≡◌, ◌∙◌, ap, subst, List, ℕ}
+use Rattle.std.proofs.Common.{subst, List, ℕ}
 use Rattle.std.specs.FinMap as finite
 use Rattle.replica_store.specs.Replica.{Replica, AllFit}
 use Rattle.replica_store.specs.Segments.{StoreForm}
 use Rattle.live_columns.specs.Choices.{ChoiceForm}
-use Rattle.replica_files.specs.Dumps.{WritesLines, dumping, dumping_where}
+use Rattle.replica_files.specs.Dumps.{WritesLines}
 use Rattle.replica_files.proofs.DumpChoices.{dump_chosen}
 use Rattle.replica_files.proofs.dumping.dump.Goals as goal
 

@@ -1,6 +1,6 @@
 -- The heading is written, and then the rows.
-use Rattle.std.proofs.Common.{◌≡◌, ◌∙◌, ap, subst, Bool, List, ℕ}
-use Rattle.std.specs.Prelude.{Result, Ok, Err}
+use Rattle.std.proofs.Common.{◌≡◌, ◌∙◌, ap, subst, List, ℕ}
+use Rattle.std.specs.Prelude.{Ok, Err}
 use Rattle.std.proofs.lemmas.Result.{err_from_is_err_and}
 use Rattle.table_model.specs.State.{State}
 use Rattle.table_model.specs.Table.{Table}

@@ -1,7 +1,6 @@
 -- The line is written whole, or a front of it.
-use Rattle.std.proofs.Common.{◌≡◌, ◌∙◌, ℕ, List, Ok, Result, length, ap, sym, refl}
+use Rattle.std.proofs.Common.{◌≡◌, ◌∙◌, ℕ, List, Ok, Result, length, ap, sym}
 use Rattle.table_model.specs.declared.refusal.Refusal.{Refusal}
-use Rattle.catalogue_join.specs.RowRange.{RowRange}
 use Rattle.column_file.specs.Files.{ranges_of}
 use Rattle.column_file.proofs.RangeLists.{ranges_are}
 use Rattle.replica_store.specs.Segments.{StoreForm}

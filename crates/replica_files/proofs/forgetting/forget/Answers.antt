@@ -4,7 +4,7 @@ use Rattle.std.proofs.lemmas.Result.{err_from_is_err_and}
 use Rattle.replica_store.specs.Segments.{StoreForm}
 use Rattle.replica_files.specs.Forgetting.{forgetting}
 use Rattle.replica_files.specs.Refusals.{is_refusal_of_forget}
-use Rattle.replica_files.specs.declared.forgetting.Forgotten.{Forgotten}
+use Rattle.replica_store.specs.declared.forgotten.Forgotten.{Forgotten}
 use Rattle.replica_files.proofs.CommandSteps.{opening_changes, command_changes, unwritten_changes, written_changes}
 use Rattle.replica_files.proofs.RefusedOnFile.{opening_ends, command_ends, writing_ends}
 use Rattle.replica_files.proofs.forgetting.forget.Goals as goal

@@ -1,5 +1,5 @@
 -- The offer of the load's batches is applied.
-use Rattle.std.proofs.Common.{◌≡◌, ◌∙◌, ◌-◌, ℕ, sym, ap, length, Ok}
+use Rattle.std.proofs.Common.{◌≡◌, ◌∙◌, ◌-◌, ℕ, sym, ap, length}
 use Rattle.std.proofs.lemmas.Result.{err_from_is_err_and}
 use Rattle.replica_store.specs.Exchange.{offering}
 use Rattle.replica_files.specs.Loads.{imported_as, chosen_name, name_of_some, new_since}

@@ -1,6 +1,7 @@
 -- The rows of the segments before this one are counted.
 use Rattle.std.proofs.Common.{◌≡◌, ◌≤◌, ◌+◌, ◌*◌, drop}
-use Rattle.replica_files.specs.Loads.{row_count, batches_in}
+use Rattle.replica_store.specs.Forgets.{row_count}
+use Rattle.replica_files.specs.Loads.{batches_in}
 use Rattle.replica_files.proofs.load.count_rows.Given as goal
 
 abbrev pub invariant-loop-index : goal.invariant-loop-index

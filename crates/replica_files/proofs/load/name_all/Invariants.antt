@@ -1,5 +1,5 @@
 -- What has its name, before what is left under the names that follow, is all.
-use Rattle.std.proofs.Common.{◌≡◌, ◌+◌, ◌++◌, length, reverse, vec_len}
+use Rattle.std.proofs.Common.{◌≡◌, ◌+◌, ◌++◌, length, reverse}
 use Rattle.replica_files.specs.Loads.{numbered_from, named_batches}
 use Rattle.replica_files.proofs.load.name_all.Given as goal
 

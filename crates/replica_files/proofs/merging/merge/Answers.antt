@@ -1,5 +1,5 @@
 -- The first file is read, the others are merged into it, and the whole is written.
-use Rattle.std.proofs.Common.{◌≡◌, arith}
+use Rattle.std.proofs.Common.{arith}
 use Rattle.std.proofs.lemmas.Result.{err_from_is_err_and}
 use Rattle.replica_store.specs.Segments.{StoreForm}
 use Rattle.replica_files.proofs.FileMerges.{merge_written}

@@ -1,6 +1,6 @@
 -- The file is read, and refused or joined.
 use Rattle.std.specs.Prelude.{ℕ, List, Option, Result, Ok, Err, IfErr, IsTrue}
-use Rattle.std.proofs.Common.{◌≡◌, arith}
+use Rattle.std.proofs.Common.{arith}
 use Rattle.std.proofs.lemmas.Result.{err_from_is_err_and}
 use Rattle.table_model.specs.Reading.{Reads}
 use Rattle.table_model.specs.declared.refusal.Refusal.{Refusal}

@@ -1,6 +1,6 @@
 -- One file after another is read and joined.
 use Rattle.std.specs.Prelude.{Err, IsTrue}
-use Rattle.std.proofs.Common.{◌≡◌, ◌<◌, ◌≤◌, length, refl, ap, sym, arith, inl, inr}
+use Rattle.std.proofs.Common.{refl, ap, sym, arith, inl, inr}
 use Rattle.std.proofs.lemmas.Result.{err_from_is_err_and}
 use Rattle.table_model.specs.declared.refusal.Refusal.TheVariants.{Memory}
 use Rattle.replica_store.specs.Segments.{StoreForm}

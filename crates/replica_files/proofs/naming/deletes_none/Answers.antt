@@ -1,5 +1,5 @@
 -- The ranges are the maximal ones of the deleted rows.
-use Rattle.std.proofs.Common.{◌≡◌, ◌∙◌, sym, ap, not}
+use Rattle.std.proofs.Common.{◌∙◌, sym, ap, not}
 use Rattle.std.specs.List.{list_all}
 use Rattle.catalogue_join.specs.RowRange.{RowRange}
 use Rattle.column_file.proofs.RangeLists.{ranges_are}

@@ -1,5 +1,5 @@
 -- The two parts are all batches.
-use Rattle.std.proofs.Common.{◌≡◌, ◌∙◌, ◌&&◌, Bool, sym, ap, not}
+use Rattle.std.proofs.Common.{◌∙◌, ◌&&◌, Bool, sym, ap, not}
 use Rattle.std.specs.List.{list_all}
 use Rattle.replica_store.specs.Segments.{Entry}
 use Rattle.replica_files.specs.Loads.{is_one_of}

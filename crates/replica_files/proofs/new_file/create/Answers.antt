@@ -1,10 +1,7 @@
 -- A new store is that of an empty state, whose file is written.
-use Rattle.std.proofs.Common.{◌≡◌, ◌∙◌, ℕ, List, map, ap}
+use Rattle.std.proofs.Common.{ap}
 use Rattle.std.proofs.lemmas.Result.{err_from_is_err_and}
-use Rattle.table_model.specs.State.{empty_state}
-use Rattle.table_model.specs.Table.{Table, schema_of}
-use Rattle.table_model.specs.declared.schema.ColType.{ColType}
-use Rattle.column_file.specs.Files.{canonical_file}
+use Rattle.table_model.specs.Table.{Table}
 use Rattle.replica_files.specs.Commands.{file_of}
 use Rattle.replica_files.proofs.CommandSteps.{create_refused, create_lacks, create_written, new_is_empty, new_lacks, export_counts}
 use Rattle.replica_files.specs.Refusals.{is_refusal_of_create}

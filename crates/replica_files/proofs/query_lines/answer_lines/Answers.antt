@@ -3,6 +3,7 @@ use Rattle.std.proofs.Common.{ℕ, refl, subst, ◌∙◌}
 use Rattle.std.proofs.lemmas.Result.{err_from_is_err_and}
 use Rattle.table_model.specs.Faults.{GaveMore, Failed}
 use Rattle.replica_files.proofs.LinesTold.{heard_last, heard_all, telling_failed}
+use Rattle.replica_files.proofs.RefusedTold.{hearing_all, hearing_last, some_nothing}
 use Rattle.replica_files.proofs.query_lines.answer_lines.Goals as goal
 
 pub returns-in_err-answer-clause-front : goal.returns-in_err-answer-clause-front
@@ -36,3 +37,19 @@ returns-in_err-answer-clause-ends g c =
 
 pub returns-clause-ends : goal.returns-clause-ends
 returns-clause-ends g c = record { read = c.in_ok-lines.ensures.ends.read; kept = c.in_ok-answer.ensures.kept ∙ c.in_ok-lines.ensures.ends.kept }
+
+pub returns-in_err-buffer-clause-fewer : goal.returns-in_err-buffer-clause-fewer
+returns-in_err-buffer-clause-fewer g c =
+    let p = err_from_is_err_and c.from_residual.result c.from_residual.ensures.1 in
+    rw p.1 (some_nothing c.args.format c.args.file.now.replica (g.R.Read.remaining c.args.reader.now.0) (g.L.Listener.heard c.args.listener.now))
+
+pub returns-in_err-answer-clause-fewer : goal.returns-in_err-answer-clause-fewer
+returns-in_err-answer-clause-fewer g c =
+    let p = err_from_is_err_and c.from_residual-in_err-answer.result c.from_residual-in_err-answer.ensures.1 in
+    rw p.1 (hearing_last c.args.format c.args.file.now.replica (g.R.Read.remaining c.args.reader.now.0) (g.R.Read.remaining c.rounds.new.reader.0) (g.L.Listener.heard c.args.listener.now) (g.L.Listener.heard c.rounds.new.listener) (g.L.Listener.heard c.answer.new.listener)
+    c.in_ok-lines.lines.number c.in_ok-lines.lines.line c.in_ok-lines.ensures.refused c.in_err-answer.ensures.quiet)
+
+pub returns-clause-refused : goal.returns-clause-refused
+returns-clause-refused g c =
+    hearing_all c.args.format c.args.file.now.replica (g.R.Read.remaining c.args.reader.now.0) (g.R.Read.remaining c.rounds.new.reader.0) (g.L.Listener.heard c.args.listener.now) (g.L.Listener.heard c.rounds.new.listener) (g.L.Listener.heard c.answer.new.listener)
+    c.in_ok-lines.lines.number c.in_ok-lines.lines.line c.in_ok-lines.ensures.refused c.in_ok-lines.ensures.ends.read.end c.in_ok-answer.ensures.refused

@@ -3,15 +3,17 @@ use Rattle.std.proofs.Common.{◌∙◌, ◌+◌, arith, inr, refl}
 use Rattle.std.proofs.lemmas.Result.{err_from_is_err_and}
 use Rattle.table_model.specs.Faults.{GaveMore}
 use Rattle.replica_files.proofs.LinesTold.{heard_start, heard_front, heard_within, heard_past, failed_since}
+use Rattle.replica_files.proofs.RefusedTold.{hearing_start, hearing_front}
 use Rattle.replica_files.proofs.query_lines.rounds.Goals as goal
 
 pub loop-turn-init : goal.loop-turn-init
 loop-turn-init g c = record {
-  heard = rw (c.new-lines.ensures.0, c.new-lines.ensures.1) (heard_start c.args.asked.now.format c.args.asked.now.file.now.replica (g.R.Read.remaining c.args.reader.now.0) (g.W.Write.contents c.args.writer.now.0));
+  heard = rw (c.new-lines.ensures.start.0, c.new-lines.ensures.start.1) (heard_start c.args.asked.now.format c.args.asked.now.file.now.replica (g.R.Read.remaining c.args.reader.now.0) (g.W.Write.contents c.args.writer.now.0));
   some = omega arith;
   limit = omega arith;
   reader = refl;
   writer = refl;
+  refused = rw (c.new-lines.ensures.start.0, c.new-lines.ensures.number) (hearing_start c.args.asked.now.format c.args.asked.now.file.now.replica (g.R.Read.remaining c.args.reader.now.0) (g.L.Listener.heard c.args.listener.now));
 }
 
 pub returns-in_err-count-clause-early : goal.returns-in_err-count-clause-early
@@ -49,6 +51,7 @@ loop-turn-preserved g c = record {
   limit = omega arith;
   reader = c.in_ok-count.ensures.kept.0 ∙ c.loop-turn.invariant.reader;
   writer = c.in_ok-count.ensures.kept.1 ∙ c.loop-turn.invariant.writer;
+  refused = c.in_ok-count.ensures.refused (g.R.Read.remaining c.args.reader.now.0) (g.L.Listener.heard c.args.listener.now) c.loop-turn.invariant.refused;
 }
 
 pub returns-then-total-gt-READ_LIMIT-clause-early : goal.returns-then-total-gt-READ_LIMIT-clause-early
@@ -71,3 +74,19 @@ returns-clause-early g c = absurd (omega (arith, c.loop-turn.invariant.some, c.l
 
 pub returns-clause-ends : goal.returns-clause-ends
 returns-clause-ends g c = absurd (omega (arith, c.loop-turn.invariant.some, c.loop-turn.invariant.limit))
+
+pub returns-in_err-count-clause-fewer : goal.returns-in_err-count-clause-fewer
+returns-in_err-count-clause-fewer g c =
+    let p = err_from_is_err_and c.from_residual.result c.from_residual.ensures.1 in
+    rw p.1 (c.in_err-count.ensures.fewer (g.R.Read.remaining c.args.reader.now.0) (g.L.Listener.heard c.args.listener.now) c.loop-turn.invariant.refused)
+
+pub returns-then-count-eq0-clause-refused : goal.returns-then-count-eq0-clause-refused
+returns-then-count-eq0-clause-refused g c = c.in_ok-count.ensures.refused (g.R.Read.remaining c.args.reader.now.0) (g.L.Listener.heard c.args.listener.now) c.loop-turn.invariant.refused
+
+pub returns-then-total-gt-READ_LIMIT-clause-fewer : goal.returns-then-total-gt-READ_LIMIT-clause-fewer
+returns-then-total-gt-READ_LIMIT-clause-fewer g c =
+    hearing_front c.args.asked.now.format c.args.asked.now.file.now.replica (g.R.Read.remaining c.args.reader.now.0) (g.R.Read.remaining c.round.new.reader.0) (g.L.Listener.heard c.args.listener.now) (g.L.Listener.heard c.round.new.listener) c.round.new.lines.number c.round.new.lines.line
+    (c.in_ok-count.ensures.refused (g.R.Read.remaining c.args.reader.now.0) (g.L.Listener.heard c.args.listener.now) c.loop-turn.invariant.refused)
+
+pub returns-clause-fewer : goal.returns-clause-fewer
+returns-clause-fewer g c = absurd (omega (arith, c.loop-turn.invariant.some, c.loop-turn.invariant.limit))

@@ -2,6 +2,7 @@
 use Rattle.std.proofs.Common.{◌≡◌, ◌≤◌}
 use Rattle.table_model.specs.declared.counted.TheConstants.{READ_LIMIT}
 use Rattle.replica_files.specs.QueryLines.{Heard}
+use Rattle.replica_files.specs.RefusedLines.{Hearing}
 use Rattle.replica_files.proofs.query_lines.rounds.Given as goal
 
 abbrev pub invariant-loop-turn : goal.invariant-loop-turn
@@ -11,4 +12,5 @@ invariant-loop-turn g l = record {
   limit : l.total ≤ READ_LIMIT;
   reader : l.reader.1 ≡ l.initial.reader.1;
   writer : l.writer.1 ≡ l.initial.writer.1;
+  refused : Hearing l.asked.format l.asked.file.now.replica (g.R.Read.remaining l.initial.reader.0) (g.R.Read.remaining l.reader.0) (g.L.Listener.heard l.initial.listener) (g.L.Listener.heard l.listener) l.lines.number l.lines.line;
 }

@@ -1,7 +1,7 @@
 -- The figures are those of the column at the place.
-use Rattle.std.proofs.Common.{◌≡◌, ◌∙◌, ap, Some}
+use Rattle.std.proofs.Common.{◌≡◌, ◌∙◌, ap}
 use Rattle.std.specs.Prelude.{slice_get}
-use Rattle.table_model.specs.Table.{Table, ColumnShape}
+use Rattle.table_model.specs.Table.{Table}
 use Rattle.replica_files.specs.ColumnFigures.{figure_texts}
 use Rattle.replica_files.proofs.report.column_line.Goals as goal
 

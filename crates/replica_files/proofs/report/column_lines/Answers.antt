@@ -1,5 +1,5 @@
 -- One line more; at the end none is left.
-use Rattle.std.proofs.Common.{◌≡◌, ◌≤◌, ◌∙◌, List, length, ap, arith}
+use Rattle.std.proofs.Common.{◌≤◌, List, length, ap, arith}
 use Rattle.table_model.specs.Table.{Table, ColumnShape}
 use Rattle.replica_files.specs.ColumnFigures.{column_lines}
 use Rattle.replica_files.proofs.ColumnLines.{lines_next, lines_end, has_one}

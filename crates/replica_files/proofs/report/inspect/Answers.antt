@@ -1,7 +1,6 @@
 -- What is written is the report, which begins with the counts.
-use Rattle.std.proofs.Common.{◌≡◌, ◌∙◌, List, ℕ, sym, subst}
+use Rattle.std.proofs.Common.{List, ℕ, sym, subst}
 use Rattle.replica_store.specs.Segments.{StoreForm}
-use Rattle.replica_files.specs.Counts.{BeginsWithCounts}
 use Rattle.replica_files.specs.Reports.{Reports}
 use Rattle.replica_files.proofs.ReportTexts.{begins, on_ok}
 use Rattle.replica_files.proofs.report.inspect.Goals as goal

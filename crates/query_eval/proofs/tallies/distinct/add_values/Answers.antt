@@ -1,9 +1,8 @@
 -- One row more, whose value is put in or was put in at the row before, or isn't looked at.
-use Rattle.std.proofs.Common.{◌≡◌, ◌||◌, cond, true, ℤ, Option, get_or, pos, FitsSigned, w64, rules, refl, sym, ap, subst, ◌∙◌, arith, List, HashSet, BuildHasherDefault, FoldHasher}
+use Rattle.std.proofs.Common.{◌≡◌, ◌||◌, cond, true, ℤ, Option, get_or, pos, FitsSigned, w64, rules, refl, sym, ap, subst, ◌∙◌, arith, List}
 use Rattle.std.specs.Option.{IfSome}
 use Rattle.std.proofs.lemmas.Int.{to_z-of_z}
 use Rattle.std.proofs.lemmas.List.{take_all}
-use Rattle.std.specs.HashSet.{contains}
 use Rattle.std.specs.List.{list_any}
 use Rattle.std.specs.Ordering.{int_eq}
 use Rattle.table_model.specs.Values.{present}
@@ -22,21 +21,21 @@ loop-row-preserved c =
       values = λ z. elim c.if-get.branch [
         | then-get+in_ok-add_after w ↦
             let fits : FitsSigned w64 (get_or values row (pos 0)) = search rules in
-            let put = w.in_ok-add_after.ensures.values z ∙ ap (λ (x : ℤ). cond (int_eq x z) true (contains int_eq c.loop-row.set z)) (to_z-of_z w64 (get_or values row (pos 0)) fits) in
-            ap (λ s. contains int_eq s z) w.set-is ∙ member-put rows values row z (get_or values row (pos 0)) _ _ (contains int_eq c.args.set.now z) c.loop-row-test.true (sym c.get.ensures ∙ w.if-get.true) refl (c.loop-row.invariant.values z) put
+            let put = w.in_ok-add_after.ensures.values z ∙ ap (λ (x : ℤ). cond (int_eq x z) true (list_any (int_eq z) c.loop-row.seen)) (to_z-of_z w64 (get_or values row (pos 0)) fits) in
+            ap (λ s. list_any (int_eq z) s) w.seen-is ∙ member-put rows values row z (get_or values row (pos 0)) _ _ (list_any (int_eq z) c.args.seen.now) c.loop-row-test.true (sym c.get.ensures ∙ w.if-get.true) refl (c.loop-row.invariant.values z) put
         | else-get w ↦
-            ap (λ s. contains int_eq s z) w.set-is ∙ member-skip rows values row z _ (contains int_eq c.args.set.now z) c.loop-row-test.true (sym c.get.ensures ∙ w.if-get.false) (c.loop-row.invariant.values z)
+            ap (λ s. list_any (int_eq z) s) w.seen-is ∙ member-skip rows values row z _ (list_any (int_eq z) c.args.seen.now) c.loop-row-test.true (sym c.get.ensures ∙ w.if-get.false) (c.loop-row.invariant.values z)
       ];
       before = elim c.if-get.branch [
         | then-get+in_ok-add_after w ↦
-            subst (λ (o : Option ℤ). IfSome o (λ last. contains int_eq c.if-get.set last ≡ true)) (sym w.before-is) (subst (λ (s : HashSet ℤ (BuildHasherDefault FoldHasher)). contains int_eq s _ ≡ true) (sym w.set-is) w.in_ok-add_after.ensures.there)
+            subst (λ (o : Option ℤ). IfSome o (λ last. list_any (int_eq last) c.if-get.seen ≡ true)) (sym w.before-is) (subst (λ (s : List ℤ). list_any (int_eq _) s ≡ true) (sym w.seen-is) w.in_ok-add_after.ensures.there)
         | else-get w ↦
-            subst (λ (o : Option ℤ). IfSome o (λ last. contains int_eq c.if-get.set last ≡ true)) (sym w.before-is)
-            (subst (λ (s : HashSet ℤ (BuildHasherDefault FoldHasher)). IfSome c.loop-row.before (λ last. contains int_eq s last ≡ true)) (sym w.set-is) c.loop-row.invariant.before)
+            subst (λ (o : Option ℤ). IfSome o (λ last. list_any (int_eq last) c.if-get.seen ≡ true)) (sym w.before-is)
+            (subst (λ (s : List ℤ). IfSome c.loop-row.before (λ last. list_any (int_eq last) s ≡ true)) (sym w.seen-is) c.loop-row.invariant.before)
       ];
     }
 
 pub returns : goal.returns
 returns c = λ z.
     let all : List (Option ℤ) = rows_of (picked c.args.rows.now c.args.values.now) in
-    c.loop-row.invariant.values z ∙ ap (λ (os : List (Option ℤ)). contains int_eq c.args.set.now z || list_any (int_eq z) (present os)) (take_all c.loop-row.row all (omega (arith, length-rows_of (picked c.args.rows.now c.args.values.now), c.loop-row-test.false)))
+    c.loop-row.invariant.values z ∙ ap (λ (os : List (Option ℤ)). list_any (int_eq z) c.args.seen.now || list_any (int_eq z) (present os)) (take_all c.loop-row.row all (omega (arith, length-rows_of (picked c.args.rows.now c.args.values.now), c.loop-row-test.false)))

@@ -1,5 +1,5 @@
 -- The lines of the first vectors are written.
-use Rattle.std.proofs.Common.{◌≡◌, length}
+use Rattle.std.proofs.Common.{◌≡◌}
 use Rattle.std.specs.Prelude.{Ok}
 use Rattle.replica_files.specs.Dumps.{WritesLines}
 use Rattle.replica_files.proofs.DumpLines.{front_of, rows_text}

@@ -1,5 +1,5 @@
 -- The fields are those of the one row; each live row is null in the column or has a value there.
-use Rattle.std.proofs.Common.{rules, ◌≡◌, ◌∙◌, [], ◌∷◌, List, ℕ, length, get_or, ◌+◌, ap, arith}
+use Rattle.std.proofs.Common.{rules, ◌≡◌, ◌∙◌, List, ℕ, length, get_or, ◌+◌, ap, arith}
 use Rattle.std.specs.Prelude.{pos, FitsSigned}
 use Rattle.std.proofs.lemmas.Grind.{common_steps}
 use Rattle.std.specs.Int.{w128}

@@ -1,5 +1,5 @@
 -- The values' number and sum more.
-use Rattle.std.proofs.Common.{rules, FitsSigned, ◌∙◌}
+use Rattle.std.proofs.Common.{rules, FitsSigned}
 use Rattle.std.specs.Int.{w128}
 use Rattle.std.proofs.lemmas.Int.{to_z-of_z}
 use Rattle.query_eval.proofs.TallyLemmas.{told_many}
@@ -7,8 +7,6 @@ use Rattle.query_eval.proofs.tallies.tally.Sums.add_many.Goals as goal
 
 pub returns : goal.returns
 returns c = λ values more many all.
-    let fits : FitsSigned w128 c.added-self.result = search rules in
-    let held : FitsSigned w128 c.args.self.now.sum = search rules in
     let given : FitsSigned w128 c.args.sum = search rules in
-    let sum = simp to_z-of_z at c.added-self.ensures in
-    told_many c.args.self.now _ more c.args.count c.args.sum many all c.saturating_add-self.ensures (λ h. to_z-of_z w128 _ fits ∙ sum h) values
+    let sum = simp to_z-of_z at c.add.ensures in
+    told_many c.args.self.now _ more c.args.count c.args.sum many all c.saturating_add-self.ensures sum values

@@ -1,0 +1,12 @@
+-- Keys with the places of their groups.
+use Rattle.std.specs.Prelude.{ℕ, List, Option}
+use Rattle.std.specs.Map.{lookup}
+use Rattle.table_model.specs.State.{Cells, same_cells}
+
+-- keys with the places of their groups, in any order
+abbrev pub Entries : Type 0
+Entries = List (Cells × ℕ)
+
+-- the place of a key's group, if it has one
+abbrev pub place_in : Entries → Cells → Option ℕ
+place_in entries key = lookup (same_cells key) entries
