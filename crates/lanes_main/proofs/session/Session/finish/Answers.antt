@@ -6,5 +6,5 @@ use Rattle.lanes_main.proofs.session.Session.finish.Goals as goal
 pub returns-clause-ok : goal.returns-clause-ok
 returns-clause-ok c =
     c.in_ok-answer_line.ensures.text
-    ∙ ap (λ (line : List ℕ). c.args.out.now.items ++ line_text (parts_in c.args.self.now.cluster) line) c.as_slice-line.ensures
+    ∙ ap (λ (line : List ℕ). c.args.out.now.items ++ line_text (parts_in c.args.self.now.cluster) line) c.as_slice-line.ensures.same
     ∙ ap (λ (text : List ℕ). c.args.out.now.items ++ text) (sym (text_end (parts_in c.args.self.now.cluster) c.args.self.now.line))
