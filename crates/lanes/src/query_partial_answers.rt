@@ -256,11 +256,7 @@ fn refusal_of(fault: PartialAnswerFault) -> CommandRefusal {
 }
 
 /// Why a partial answer is not combined or finished.
-fn refused<R: AllocGlobal>(
-    rt: &R,
-    source: Source<'_>,
-    fault: PartialAnswerFault,
-) -> Failure {
+fn refused<R: AllocGlobal>(rt: &R, source: Source<'_>, fault: PartialAnswerFault) -> Failure {
     let refusal = refusal_of(fault);
     match fault {
         PartialAnswerFault::Memory => Failure::of(rt.alloc(), refusal),
