@@ -19,7 +19,7 @@ def cells_of(chance, name, values):
     """Some cells of a column, one null among them if there is more than one: near 0, or at the ends of the type, which differ in the last bit."""
     most = EDGES[name]
     near = chance.random() < 0.6
-    found = {chance.randint(-most - 1, most) if most < 200 or not near else chance.randint(-values, values) for _ in range(4 * values)}
+    found = {chance.randint(-most - 1, most) if most < 200 or not near else chance.randint(-min(values, most), min(values, most)) for _ in range(4 * values)}
     found |= {most, most - 1, -most - 1, -most} if not near else set()
     found = chance.sample(sorted(found), min(values, len(found)))
     return found[:-1] + [None] if len(found) > 1 else found
