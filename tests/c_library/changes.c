@@ -1,6 +1,6 @@
 /* Changes of the table of a handle, its file, its report, and its columns in pieces: the changed table has the file that the call without
  * a handle gives; a refused change leaves the handle; a second handle has what it had; pieces are the whole. */
-#include "told.h"
+#include "tables.h"
 
 enum { CELLS = 4096, MARKER = 77 };
 
@@ -28,18 +28,6 @@ static lanes_table opened(bytes file) {
     if (number != 0) end_at("lanes_open", number, place);
     free(copy.at);
     return table;
-}
-
-static bytes file_of(lanes_table *table) {
-    bytes file;
-    TAKE(file, lanes_file(table, out, room, &length, &place));
-    return file;
-}
-
-static void expect_file(lanes_table *table, bytes wanted, const char *what) {
-    bytes found = file_of(table);
-    expect(are_same(found, wanted), what);
-    free(found.at);
 }
 
 /* What a change answered. */

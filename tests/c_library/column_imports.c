@@ -1,6 +1,7 @@
 /* Imports of columns: the file is that of an import of the same rows as a text, at all numbers of rows about the ends of bits, vectors and batches;
  * what lanes_columns gives goes in again; and a refused import leaves the handle. */
-#include "told.h"
+#include "opened.h"
+#include "tables.h"
 
 enum { COLUMNS = 4 };
 
@@ -62,26 +63,6 @@ static bytes empty_file(void) {
     bytes file;
     TAKE(file, lanes_create(text_of(TABLE), strlen(TABLE), out, room, &length, &place));
     return file;
-}
-
-static lanes_table opened(bytes file) {
-    lanes_table table = LANES_CLOSED;
-    lanes_place place;
-    uint8_t number = lanes_open(file.at, file.length, &table, &place);
-    if (number != 0) end_at("lanes_open", number, place);
-    return table;
-}
-
-static bytes file_of(lanes_table *table) {
-    bytes file;
-    TAKE(file, lanes_file(table, out, room, &length, &place));
-    return file;
-}
-
-static void expect_file(lanes_table *table, bytes wanted, const char *what) {
-    bytes found = file_of(table);
-    expect(are_same(found, wanted), what);
-    free(found.at);
 }
 
 /* What an import answered. */
