@@ -103,7 +103,7 @@ impl Values {
     }
 
     /// The law that the values are in the range of their lane width.
-    pub fn are_in_range(&self)
+    pub fn keep_their_range(&self)
         ensures width { IsLaneWidth self.now.lane_width }
         ensures fit { AreInRange self.now.lane_width self.now.values }
     {

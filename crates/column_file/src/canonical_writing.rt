@@ -136,7 +136,7 @@ pub fn export<W: Write>(
     // What was written opens to the store's schema and state.
     ensures opens { OnOk result (OpensTo (canonical_file store.now.replica.schema store.now.replica.state) store.now.replica.schema store.now.replica.state) }
 {
-    store.is_within_limits();
+    store.keeps_its_limits();
     let (first, second) = store.parts();
     let first_made = canonical_copies(alloc, first)?;
     let second_made = canonical_copies(alloc, second)?;

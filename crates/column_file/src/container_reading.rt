@@ -76,7 +76,7 @@ fn read_segment<'a>(
 {
     let at = bytes.len().saturating_sub(rest.len());
     let (segment, next) = Segment::read_bytes(alloc, schema, rows, bytes, at)?;
-    segment.is_of_its_vectors();
+    segment.keeps_its_vectors();
     let (_, after) = bytes.split_at(next.min(bytes.len()));
     Ok((segment, after))
 }

@@ -62,7 +62,7 @@ fn put_first_other(alloc: Global, segment: &mut Segment) -> Result<(), Refusal>
     let Some((column, vector)) = first_other(segment) else {
         return Ok(());
     };
-    segment.is_of_its_vectors();
+    segment.keeps_its_vectors();
     let coding = canonical_coding(alloc, segment.vector(column, vector))?;
     segment.recode(alloc, column as u32, vector as u32, coding)
 }

@@ -5,13 +5,10 @@ ghost use Rattle.column_file.specs.Input.{ReadsWhole, is_unread};
 
 use std::alloc::{AllocError, Global};
 use std::io::Read;
-use table_model::{Counted, READ_LIMIT, Refusal};
+use table_model::{Counted, READ_CHUNK, READ_LIMIT, Refusal};
 
 /// How many bytes the first read asks for: a small input comes whole.
 const FIRST_CHUNK: usize = 4_096;
-
-/// How many bytes each read asks for once one gave all that it was asked for.
-const CHUNK: usize = 65_536;
 
 /// The most reads: each round but the last reads at least a byte.
 const ROUNDS: u64 = READ_LIMIT + 1;
@@ -23,10 +20,10 @@ fn after_read(alloc: Global, buffer: Vec<u8>, count: usize) -> Result<Vec<u8>, A
     ensures some { IfOk result (λ next. 0 < vec_len next) }
     ensures limit { IfOk result (λ next. vec_len next ≤ 65536) }
 {
-    if count < buffer.len() || count == CHUNK {
+    if count < buffer.len() || count == READ_CHUNK {
         return Ok(buffer);
     }
-    vec![in alloc; 0u8; CHUNK]
+    vec![in alloc; 0u8; READ_CHUNK]
 }
 
 /// What a reader has, read to its end through a buffer, which grows if a read fills it. `ReadFault` if a read fails or more than 2^48

@@ -12,13 +12,10 @@ use crate::bytes::{after_mark, before_last};
 use std::alloc::{AllocError, Global};
 use std::io::Read;
 use std::marker::Model;
-use table_model::{Counted, READ_LIMIT, Refusal};
+use table_model::{Counted, READ_CHUNK, READ_LIMIT, Refusal};
 
 /// The greatest number of bytes of a line, without its end.
 pub const LINE_LIMIT: usize = 1_048_576;
-
-/// How many bytes one read asks for.
-const CHUNK: usize = 65_536;
 
 /// How many bytes a byte order mark has.
 const MARK: usize = 3;
@@ -134,7 +131,7 @@ impl Lines {
     pub fn new(alloc: Global) -> Result<Lines, AllocError>
         ensures { IfOk result (λ lines. lines ≡ no_lines) }
     {
-        let buffer = vec![in alloc; 0u8; CHUNK]?;
+        let buffer = vec![in alloc; 0u8; READ_CHUNK]?;
         Ok(Lines {
             buffer,
             from: 0,

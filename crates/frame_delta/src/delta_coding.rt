@@ -196,7 +196,7 @@ impl Delta {
         requires base_count { length bases.values ≡ 1024 / words.lane_width }
         ensures { result ≡ record { lane_width = words.lane_width; width = width; least = least; bases = bases.values; words = words } }
     {
-        bases.are_in_range();
+        bases.keep_their_range();
         words.fit_lanes();
         prove!(words.packed_width() == width);
         Delta {

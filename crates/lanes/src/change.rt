@@ -1,8 +1,8 @@
 //! What a command changes in a file, and what it says of that.
 
-use file_commands::{HeldRows, Left};
+use file_home::{HeldRows, Left};
 use file_replacing::{Folder, Place};
-use replica_files::{Applied, Deleted, DeletedRows, Imported, Load, file_schema};
+use replica_commands::{Applied, Deleted, DeletedRows, Imported, Load, file_schema};
 use replica_store::{Forgotten, Offer};
 use std::alloc::Global;
 use std::fmt;
@@ -55,31 +55,31 @@ impl<'a> Change<'a> {
     ) -> Result<Done, Refusal> {
         let (answer, left) = match self {
             Change::Create { table, columns } => {
-                let replaced = file_commands::create(alloc, folder, place, table, columns)?;
+                let replaced = file_home::create(alloc, folder, place, table, columns)?;
                 (Answer::Created, Left::Changed(replaced))
             }
             Change::Import { load, first, words } => {
-                let done = file_commands::import(alloc, folder, place, load, first, words)?;
+                let done = file_home::import(alloc, folder, place, load, first, words)?;
                 (Answer::Imported(done.answer), done.left)
             }
             Change::Delete { condition } => {
-                let done = file_commands::delete(alloc, folder, place, condition)?;
+                let done = file_home::delete(alloc, folder, place, condition)?;
                 (Answer::Deleted(done.answer), done.left)
             }
             Change::DeleteRows { first, last } => {
-                let done = file_commands::delete_rows(alloc, folder, place, first, last)?;
+                let done = file_home::delete_rows(alloc, folder, place, first, last)?;
                 (Answer::DeletedRows(done.answer), done.left)
             }
             Change::DeleteHeldRows { first, last } => {
-                let done = file_commands::delete_held_rows(alloc, folder, place, first, last)?;
+                let done = file_home::delete_held_rows(alloc, folder, place, first, last)?;
                 (Answer::DeletedHeldRows(done.answer), done.left)
             }
             Change::Forget => {
-                let done = file_commands::forget(alloc, folder, place)?;
+                let done = file_home::forget(alloc, folder, place)?;
                 (Answer::Forgotten(done.answer), done.left)
             }
             Change::Apply { offers } => {
-                let done = file_commands::apply(alloc, folder, place, offers)?;
+                let done = file_home::apply(alloc, folder, place, offers)?;
                 (Answer::Applied(done.answer), done.left)
             }
         };
@@ -91,20 +91,22 @@ impl<'a> Change<'a> {
         let mut nowhere = Counted::new(io::sink());
         match self {
             Change::Create { table, columns } => {
-                replica_files::create(alloc, table, columns, &mut nowhere)
+                replica_commands::create(alloc, table, columns, &mut nowhere)
             }
             Change::Import { load, first, words } => {
-                replica_files::import(alloc, reader, load, first, words, &mut nowhere).map(|_| ())
+                replica_commands::import(alloc, reader, load, first, words, &mut nowhere).map(
+                    |_| (),
+                )
             }
             Change::Delete { condition } => {
-                replica_files::delete(alloc, reader, condition, &mut nowhere).map(|_| ())
+                replica_commands::delete(alloc, reader, condition, &mut nowhere).map(|_| ())
             }
             Change::DeleteRows { first, last } | Change::DeleteHeldRows { first, last } => {
-                replica_files::delete_rows(alloc, reader, first, last, &mut nowhere).map(|_| ())
+                replica_commands::delete_rows(alloc, reader, first, last, &mut nowhere).map(|_| ())
             }
-            Change::Forget => replica_files::forget(alloc, reader, &mut nowhere).map(|_| ()),
+            Change::Forget => replica_commands::forget(alloc, reader, &mut nowhere).map(|_| ()),
             Change::Apply { offers } => {
-                replica_files::apply(alloc, reader, offers, &mut nowhere).map(|_| ())
+                replica_commands::apply(alloc, reader, offers, &mut nowhere).map(|_| ())
             }
         }
     }

@@ -17,12 +17,12 @@ use crate::watched_folder::{Unheld, WatchedFolder};
 use crate::whole_lines::LineEnds;
 use command_line::{CsvForm, Source};
 use csv_rows::{CsvError, CsvReader, Dialect, Order, WordError};
-use file_commands::Left;
+use file_home::Left;
 use file_replacing::{Folder, HoldError, Place, Replaced, SystemFolder};
 use refusal_sentences::{
     CommandRefusal, Fields, Knowledge, Printable, Sentence, Text, Wanted, is_of_a_text,
 };
-use replica_files::{Load, read_csv};
+use replica_commands::{Load, read_csv};
 use replica_store::Offer;
 use std::alloc::{AllocError, Global};
 use std::fs::{self, File, Files};

@@ -1,7 +1,7 @@
 //! A part that is compared with its name before anything is read from it.
 
 use crate::folders::last_of;
-use folder_parts::is_part;
+use folder_home::is_part;
 use std::fs::{self, Files};
 use std::io::{self, ErrorKind, Read};
 

@@ -11,12 +11,13 @@ use crate::offer_tables::OfferTables;
 use crate::progress::Progress;
 use crate::putting::{keep_all, make_folder, put_part, say};
 use command_line::{CsvForm, Source};
-use file_commands::{HeldRows, Left};
-use folder_parts::{
+use file_home::{HeldRows, Left};
+use folder_home::{
     check_room, part_of_deletes, part_of_load, part_of_named_load, part_of_offers, part_of_rows,
 };
 use refusal_sentences::{CommandRefusal, is_of_a_text};
-use replica_files::{DeletedRows, OpenFile};
+use replica_commands::DeletedRows;
+use replica_reading::OpenFile;
 use replica_store::Store;
 use std::fs::{File, Files};
 use std::random::RandomSource;
@@ -43,7 +44,7 @@ pub fn create<R: Print + Eprint + Files<File = File> + RandomSource + AllocGloba
         return Err(Failure::of_file(rt, CommandRefusal::Exists, folder));
     }
     let mut writer = Counted::new(Vec::new(rt.alloc()));
-    match replica_files::create(rt.alloc(), table, columns, &mut writer) {
+    match replica_commands::create(rt.alloc(), table, columns, &mut writer) {
         Ok(()) => {}
         Err(Refusal::BadSchema) => return Err(Failure::of_names(rt.alloc(), table, columns)),
         Err(refusal) => return Err(refused_alone(rt, folder, in_memory(refusal))),

@@ -5,7 +5,7 @@ use crate::folders::{Opened, Parts, open_folder};
 use crate::progress::Progress;
 use crate::reports::write_line;
 use command_line::ReportForm;
-use replica_files::OpenFile;
+use replica_reading::OpenFile;
 use std::fs::{File, Files};
 use std::rt::Clock;
 use table_model::Counted;
@@ -38,7 +38,7 @@ pub fn inspect<R: Print + Eprint + Files<File = File> + Clock + AllocGlobal + Cl
     let opened: Opened<OpenFile> = open_folder(rt, progress, folder)?;
     let Opened { held, parts } = opened;
     let mut report = Counted::new(Vec::new(rt.alloc()));
-    if let Err(refusal) = replica_files::inspect(rt.alloc(), &held, form, &mut report) {
+    if let Err(refusal) = replica_reading::inspect(rt.alloc(), &held, form, &mut report) {
         return Err(Failure::from(refusal));
     }
     let report = with_counts(rt, report.into_inner().as_slice(), form, &parts)?;

@@ -6,12 +6,12 @@ use crate::heads::{Headed, Heads};
 use crate::part_failures::{HeadedPart, Unread, busy, of_folder, path_at, why_unread};
 use crate::parts::{Opening, PartFile, Untold};
 use crate::progress::{PartCount, Progress, ToldOpening};
-use folder_parts::{
+use folder_home::{
     HEAD_BYTES, Head, Part, PartRefusal, is_part, is_part_name, join_parts, open_parts, part_head,
 };
 use part_folder::{Listing, Patience, is_link, list, list_locked, path_in};
 use refusal_sentences::CommandRefusal;
-use replica_files::OpenFile;
+use replica_reading::OpenFile;
 use replica_store::Store;
 use std::alloc::{AllocError, Global};
 use std::fs::{self, File, Files};

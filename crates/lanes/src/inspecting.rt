@@ -12,7 +12,7 @@ use command_line::{ReportForm, Source};
 use partial_commands::{inspect_partial_answer, inspect_summary};
 use partial_file::read_partial_answer;
 use refusal_sentences::CommandRefusal;
-use replica_files::{OpenFile, list_batches};
+use replica_reading::{OpenFile, list_batches};
 use std::fs::{File, Files};
 use std::io::Read;
 use std::rt::Clock;
@@ -102,7 +102,7 @@ fn inspect_file<R: Print + Files + AllocGlobal, D: Read + Drop>(
 ) -> Result<(), Failure> {
     let held = open(rt, file, reader)?;
     let mut writer = buffered(rt)?;
-    let outcome = replica_files::inspect(rt.alloc(), &held, form, &mut writer);
+    let outcome = replica_reading::inspect(rt.alloc(), &held, form, &mut writer);
     told(rt, flushed(writer, outcome))
 }
 

@@ -7,7 +7,7 @@ use crate::part_failures::{Unread, busy, of_folder, path_at, why_unread};
 use crate::parts::Untold;
 use crate::putting::{place, unwritten, written};
 use file_replacing::Replaced;
-use folder_parts::{PartFault, PartRefusal, join_parts, part_name};
+use folder_home::{PartFault, PartRefusal, join_parts, part_name};
 use part_folder::{FolderFault, FolderLock, Patience, Temporary};
 use refusal_sentences::CommandRefusal;
 use std::fs::{File, Files};

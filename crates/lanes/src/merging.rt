@@ -13,8 +13,8 @@ use crate::putting::{make_folder, say};
 use crate::reports::write_line;
 use command_line::{Source, not_for_a_folder};
 use either::Either;
-use file_commands::{Left, merged};
-use folder_parts::PartFault;
+use file_home::{Left, merged};
+use folder_home::PartFault;
 use part_folder::Patience;
 use refusal_sentences::CommandRefusal;
 use std::alloc::AllocError;
@@ -23,14 +23,11 @@ use std::io::Read;
 use std::os::unix::fs::MetadataExt;
 use std::random::RandomSource;
 use std::rt::Clock;
-use table_model::{Counted, Refusal};
+use table_model::{Counted, READ_CHUNK, Refusal};
 
 /// What to do instead of a merge into a folder that is there.
 const NO_FOLDER: &str =
     "OUT is a folder: lanes apply FOLDER FILE.. adds files to it, and a name that ends in / makes a new one";
-
-/// How many bytes are compared at once.
-const CHUNK: usize = 65_536;
 
 /// Writes the canonical file of what all of some files hold, of which there is at least one, and then `ok`, unless it is to be quiet
 /// or what is written is no regular file, since that may be standard output itself. The files are judged in order. The one that is
@@ -128,7 +125,7 @@ fn replace<R: Eprint + Files<File = File> + Clock + AllocGlobal + Clone + Drop>(
 
 /// Whether a file has these bytes, and no others.
 fn has_bytes<R: Files + AllocGlobal>(rt: &R, name: &str, bytes: &[u8]) -> bool {
-    let Ok(mut chunk) = vec![in rt.alloc(); 0u8; CHUNK] else {
+    let Ok(mut chunk) = vec![in rt.alloc(); 0u8; READ_CHUNK] else {
         return false;
     };
     let mut reader = LazyFile::new(rt, name);
@@ -136,7 +133,7 @@ fn has_bytes<R: Files + AllocGlobal>(rt: &R, name: &str, bytes: &[u8]) -> bool {
     for _ in 0..u64::MAX {
         match reader.read(chunk.as_mut_slice()) {
             Ok(0) => return left.is_empty(),
-            Ok(count) => match left.strip_prefix(&chunk.as_slice()[..count.min(CHUNK)]) {
+            Ok(count) => match left.strip_prefix(&chunk.as_slice()[..count.min(READ_CHUNK)]) {
                 Some(rest) => left = rest,
                 None => return false,
             },

@@ -3,7 +3,7 @@
 use crate::changing::{not_written, say_kept_unsynced, say_unsynced, unlocked};
 use crate::failure::Failure;
 use crate::watched_folder::{Unheld, WatchedFolder};
-use file_commands::{leave, put};
+use file_home::{leave, put};
 use file_replacing::{Place, Replaced, SystemFolder, Unwatched, keep};
 use std::alloc::AllocError;
 use std::fs::{self, File, Files};

@@ -8,7 +8,7 @@ use crate::part_failures::{Unread, busy, of_folder, why_unread};
 use crate::parts::Untold;
 use crate::replacing::{Round, replace};
 use crate::reports::write_line;
-use folder_parts::{PartFault, PartRefusal, packed_prefix};
+use folder_home::{PartFault, PartRefusal, packed_prefix};
 use part_folder::{Patience, is_link, sweep};
 use refusal_sentences::CommandRefusal;
 use std::fs::{self, File, Files};
@@ -144,7 +144,7 @@ fn joined<R: Files + AllocGlobal>(rt: &R, paths: &[String]) -> Result<Vec<u8>, U
     let heads = Heads::new(rt.alloc());
     let mut readers = parts_of(rt, paths, Untold, &heads)?;
     let outcome = match readers.as_mut_slice().split_first_mut() {
-        Some((first, others)) => folder_parts::pack(rt.alloc(), first, others, &mut writer),
+        Some((first, others)) => folder_home::pack(rt.alloc(), first, others, &mut writer),
         None => return Err(Unread::Gone),
     };
     match outcome {

@@ -3,7 +3,7 @@
 use crate::failure::Failure;
 use crate::heads::{Headed, Heads};
 use crate::parts::{Opening, PartFile};
-use folder_parts::{Part, PartFault, PartRefusal};
+use folder_home::{Part, PartFault, PartRefusal};
 use part_folder::{FolderFault, is_link};
 use refusal_sentences::CommandRefusal;
 use std::alloc::{AllocError, AllocFailed, Global};

@@ -6,7 +6,7 @@ use crate::progress::Progress;
 use crate::watched::{Cause, Watched};
 use command_line::Format;
 use refusal_sentences::{CommandRefusal, Knowledge, Sentence, Text};
-use replica_files::{Listener, answer_all, answer_lines};
+use replica_reading::{Listener, answer_all, answer_lines};
 use std::alloc::Global;
 use std::fmt;
 use std::fs::{File, Files};

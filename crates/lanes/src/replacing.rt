@@ -4,7 +4,7 @@ use crate::failure::Failure;
 use crate::folders::last_of;
 use crate::putting::{kept, new_temporary, opened, unkept};
 use file_replacing::Replaced;
-use folder_parts::{is_removed, part_name};
+use folder_home::{is_removed, part_name};
 use folder_protocol::{self, Outcome};
 use refusal_sentences::CommandRefusal;
 use std::alloc::AllocError;

@@ -9,7 +9,7 @@ use crate::watched::{Cause, Watched};
 use command_line::{Source, not_for_a_terminal};
 use live_columns::{Unchosen, choose};
 use refusal_sentences::{CommandRefusal, Text, is_of_a_text};
-use replica_files::{OpenFile, dump_where};
+use replica_reading::{OpenFile, dump_where};
 use std::fs::{File, Files};
 use std::io::{self, BufWriter, Printer, Write};
 use std::rt::Clock;
@@ -36,7 +36,7 @@ pub fn check<R: Print + Eprint + Files<File = File> + Clock + AllocGlobal + Clon
     }
     let held = opened(rt, progress, file)?;
     let mut writer = Counted::new(Watched::new(io::writer(rt)));
-    let outcome = replica_files::check(rt.alloc(), &held, &mut writer);
+    let outcome = replica_reading::check(rt.alloc(), &held, &mut writer);
     told(rt, writer.into_inner().ended(outcome))
 }
 
@@ -96,7 +96,7 @@ pub fn summary<R: Print + Eprint + Files<File = File> + Clock + AllocGlobal + Cl
     }
     let held = opened(rt, progress, file)?;
     let mut writer = buffered(rt)?;
-    let outcome = replica_files::summary(rt.alloc(), &held, &mut writer);
+    let outcome = replica_reading::summary(rt.alloc(), &held, &mut writer);
     told(rt, flushed(writer, outcome))
 }
 
@@ -118,7 +118,7 @@ pub fn offer<R: Print + Eprint + Input + Files<File = File> + Clock + AllocGloba
         Err(refusal) => return Err(unread_by(rt, CommandRefusal::from(refusal), source, reader)),
     };
     let mut writer = buffered(rt)?;
-    let outcome = replica_files::offer(rt.alloc(), &held, &summary, &mut writer);
+    let outcome = replica_reading::offer(rt.alloc(), &held, &summary, &mut writer);
     if outcome == Err(Refusal::SchemaDiffers) {
         let name = name_of(source);
         return Err(Failure::of_tables(rt.alloc(), name, summary.schema(), file, held.schema()));

@@ -12,7 +12,7 @@ use crate::handle::Table;
 use crate::shared::Shared;
 use crate::taking::text_of;
 use column_file::read_offer;
-use replica_files::{Load, apply_offers, import_load};
+use replica_commands::{Load, apply_offers, import_load};
 use replica_store::{Store, Summary};
 use std::alloc::Global;
 use std::boxed::Box;

@@ -2,20 +2,17 @@
 ghost use Rattle.std.specs.Prelude.{◌≡◌, ◌<◌, ◌≤◌, length, ℕ, IfOk, IfErr, OnOk, OnErr};
 ghost use Rattle.std.specs.Io.KnownBytes.{IsAtEnd};
 ghost use Rattle.table_model.specs.Faults.{Failed};
-ghost use Rattle.replica_files.specs.Refusals.{IsReadAndWritten};
+ghost use Rattle.replica_reading.specs.ReadAndWritten.{IsReadAndWritten};
 ghost use Rattle.lanes_main.specs.Script.{parts_in};
 ghost use Rattle.lanes_main.specs.Told.{Sofar, IsStopped, EndsScript, GoesOn, EndsEarly, StaysTold};
 
 use crate::session::Session;
 use std::alloc::Global;
 use std::io::{self, Read, Write};
-use table_model::{Counted, READ_LIMIT, Refusal};
+use table_model::{Counted, READ_CHUNK, READ_LIMIT, Refusal};
 
 /// The most reads: each round but the last reads at least a byte.
 const ROUNDS: u64 = READ_LIMIT + 1;
-
-/// How many bytes one read asks for.
-const CHUNK: usize = 65_536;
 
 /// Reads once, answers the lines that end in what came, and writes their replies; answers how many bytes came, 0 at the end.
 fn round<R: Read, W: Write, N: Write>(
@@ -104,7 +101,7 @@ pub fn script_with_notes<R: Read, W: Write, N: Write>(
 ) -> Result<(), Refusal>
     ensures { EndsScript R.remaining W.contents reader.old reader.new writer.old writer.new result }
 {
-    let mut buffer = vec![in alloc; 0u8; CHUNK]?;
+    let mut buffer = vec![in alloc; 0u8; READ_CHUNK]?;
     let mut session = rounds(alloc, reader, writer, notes, buffer.as_mut_slice())?;
     let mut last = Vec::new(alloc);
     session.finish(alloc, &mut last)?;

@@ -292,7 +292,7 @@ impl<'a> Walk16<'a> {
 
     /// The law that the lanes have 16 bits.
     #[inline(always)]
-    fn has_lanes_of_16(&self)
+    fn keeps_lanes_of_16(&self)
         ensures { self.now.lane_width ≡ 16 }
     {
         let _ = &self.width;
@@ -304,7 +304,7 @@ impl<'a> Walk16<'a> {
         ensures rows { result ≡ rows_of (λ n. nat_le first (number_of_row self.now n) && nat_le (number_of_row self.now n) last) }
         ensures below { (n : ℕ) → number_of_row self.now n ≤ 2 ^ 16 - 1 }
     {
-        self.has_lanes_of_16();
+        self.keeps_lanes_of_16();
         if last < first {
             return Mask::none();
         }

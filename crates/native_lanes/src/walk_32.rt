@@ -285,7 +285,7 @@ impl<'a> Walk32<'a> {
 
     /// The law that the lanes have 32 bits.
     #[inline(always)]
-    fn has_lanes_of_32(&self)
+    fn keeps_lanes_of_32(&self)
         ensures { self.now.lane_width ≡ 32 }
     {
         let _ = &self.width;
@@ -297,7 +297,7 @@ impl<'a> Walk32<'a> {
         ensures rows { result ≡ rows_of (λ n. nat_le first (number_of_row self.now n) && nat_le (number_of_row self.now n) last) }
         ensures below { (n : ℕ) → number_of_row self.now n ≤ 2 ^ 32 - 1 }
     {
-        self.has_lanes_of_32();
+        self.keeps_lanes_of_32();
         if last < first {
             return Mask::none();
         }

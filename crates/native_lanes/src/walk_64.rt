@@ -414,7 +414,7 @@ impl<'a> Walk64<'a> {
 
     /// The law that the lanes have 64 bits.
     #[inline(always)]
-    fn has_lanes_of_64(&self)
+    fn keeps_lanes_of_64(&self)
         ensures { self.now.lane_width ≡ 64 }
     {
         let _ = &self.width;
@@ -429,7 +429,7 @@ impl<'a> Walk64<'a> {
         requires all { (lane step : ℕ) → lane < 16 → step < 64 → has rows.now (row_at 64 lane step) ≡ true }
         ensures { result ≡ fold_to max 0 1024 (λ n. cond (has rows.now n) (turned 64 flipped (number_of_row self.now n)) 0) }
     {
-        self.has_lanes_of_64();
+        self.keeps_lanes_of_64();
         let numbers = if flipped { *first } else { self.last_numbers() };
         greatest_of_turned(flipped, &numbers)
     }
@@ -526,7 +526,7 @@ impl<'a> Walk64<'a> {
         ensures rows { result ≡ rows_of (λ n. nat_le first (number_of_row self.now n) && nat_le (number_of_row self.now n) last) }
         ensures below { (n : ℕ) → number_of_row self.now n ≤ 2 ^ 64 - 1 }
     {
-        self.has_lanes_of_64();
+        self.keeps_lanes_of_64();
         if last < first {
             return Mask::none();
         }

@@ -3,7 +3,7 @@ use Rattle.std.specs.Prelude.{◌≡◌, ◌≤◌, ◌*◌, ◌^◌, ℕ, List,
 use Rattle.std.specs.BTreeMap.{get}
 use Rattle.std.specs.Global.{Vec}
 use Rattle.std.specs.String.{string_bytes}
-use Rattle.table_model.specs.Group.{key_cmp, IsWithin}
+use Rattle.table_model.specs.Group.{key_cmp, IsWithin, state_row_limit}
 use Rattle.table_model.specs.Query.{QueryShape}
 use Rattle.table_model.specs.Reading.{◌>>=◌}
 use Rattle.table_model.specs.State.{Cells}
@@ -58,13 +58,13 @@ HaveShape table query m = FitPlan (measured (plan_of table.columns query)) m
 abbrev pub IsShaped : CodePartialAnswer → Type 0
 IsShaped p = (query : QueryShape) → query_of (string_bytes p.text) ≡ Ok query → HaveShape p.schema query p.groups
 
--- what is kept can be finished: a sum is within what as many values of 64 bits come to, and there are at most 2^36 distinct values
+-- what is kept can be finished: a sum is within what as many values of 64 bits come to, and there are at most as many distinct values as a state may have rows
 abbrev pub CanFinish : Kept → Type 0
 CanFinish (Count n) = Unit {0}
 CanFinish (Sum sums) = IsWithin (sums.count * 2 ^ 63) sums.sum
 CanFinish (Least o) = Unit {0}
 CanFinish (Greatest o) = Unit {0}
-CanFinish (Distinct values) = length values ≤ 2 ^ 36
+CanFinish (Distinct values) = length values ≤ state_row_limit
 
 -- what is kept of a group can be finished
 abbrev pub EachCanFinish : List Kept → Type 0

@@ -11,10 +11,10 @@ use Rattle.column_file.specs.Files.{Exports}
 use Rattle.column_file.specs.Input.{IsReadWhole, Judges, is_refusal_of_reading}
 use Rattle.partial_file.specs.PartialAnswerBytes.{partial_answer_bytes}
 use Rattle.partial_file.specs.PartialAnswerReading.{has_bytes}
-use Rattle.replica_files.specs.Asking.{is_refusal_of_answering}
-use Rattle.replica_files.specs.Commands.{held_in}
-use Rattle.replica_files.specs.Refusals.{IsReadAndWritten}
-use Rattle.replica_files.proofs.CommandSteps.{exported_put}
+use Rattle.replica_reading.specs.Asking.{is_refusal_of_answering}
+use Rattle.replica_reading.specs.Held.{held_in}
+use Rattle.replica_reading.specs.ReadAndWritten.{IsReadAndWritten}
+use Rattle.replica_commands.proofs.CommandSteps.{exported_put}
 use Rattle.replica_store.specs.Replica.{Replica}
 use Rattle.store_view.specs.Asked.{is_refusal_of_query}
 use Rattle.partial_commands.specs.FilePartialAnswers.{WritesFilePartialAnswer, WritesPartialAnswer, is_refusal_of_giving}

@@ -13,8 +13,8 @@ use Rattle.partial_answers.specs.declared.partial_answer.PartialAnswer.{PartialA
 use Rattle.column_file.specs.Input.{IsUnread, is_refusal_of_reading}
 use Rattle.partial_file.specs.PartialAnswerBytes.{Entry, partial_answer_bytes}
 use Rattle.partial_file.specs.PartialAnswerReading.{PartialAnswerForm, has_bytes, partial_answer_read}
-use Rattle.replica_files.specs.Asking.{is_refusal_of_answering}
-use Rattle.replica_files.specs.Commands.{held_in}
+use Rattle.replica_reading.specs.Asking.{is_refusal_of_answering}
+use Rattle.replica_reading.specs.Held.{held_in}
 use Rattle.partial_commands.specs.StorePartialAnswer.{PartialAnswerMeaning, meaning_of, query_partial_answer}
 
 -- the partial answer that a file gives to the query that a text is, or the refusal: the first fault of the file, or the query's

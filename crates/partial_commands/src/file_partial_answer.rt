@@ -1,14 +1,14 @@
 //! The partial answer of a file: what it gives to the answer of a query, written as bytes.
 ghost use Rattle.std.specs.Prelude.{◌≡◌, IsTrue, OnOk, IfErr};
 ghost use Rattle.table_model.specs.Faults.{GaveMore, CountsBoth, CountsWrites};
-ghost use Rattle.replica_files.specs.Asking.{is_refusal_of_answering};
-ghost use Rattle.replica_files.specs.Refusals.{IsReadAndWritten};
+ghost use Rattle.replica_reading.specs.Asking.{is_refusal_of_answering};
+ghost use Rattle.replica_reading.specs.ReadAndWritten.{IsReadAndWritten};
 ghost use Rattle.partial_commands.specs.FilePartialAnswers.{WritesFilePartialAnswer, WritesPartialAnswer, is_refusal_of_giving};
 ghost use Rattle.partial_commands.specs.StorePartialAnswer.{query_partial_answer};
 
 use crate::store_partial_answer::partial_answer_of_store;
 use partial_file::write_partial_answer;
-use replica_files::OpenFile;
+use replica_reading::OpenFile;
 use replica_store::Store;
 use std::alloc::Global;
 use std::io::{Read, Write};

@@ -41,7 +41,7 @@ impl<'a> Brought<'a> {
         ensures own { Reads (λ brought. brought.own.replica) result (new_replica held.now.replica.schema (record { 0 = 1 })) }
         ensures segments { IfOk result (λ brought. brought.own.segments ≡ map.empty) }
     {
-        held.is_within_limits();
+        held.keeps_its_limits();
         let own = Store::new(alloc, held.schema(), Origin(1))?;
         Ok(Brought { held, own })
     }

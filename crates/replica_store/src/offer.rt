@@ -113,7 +113,7 @@ impl Offer {
         ensures valid { HasBytesIn self.now.schema result.1.now }
     {
         let (name, segment) = &self.entries()[index];
-        segment.is_of_its_vectors();
+        segment.keeps_its_vectors();
         (*name, segment)
     }
 

@@ -134,7 +134,7 @@ impl Store {
     }
 
     /// The law that a store is within its limits.
-    pub fn is_within_limits(&self)
+    pub fn keeps_its_limits(&self)
         ensures limit { map.len self.now.replica.state.batches ≤ batch_limit }
         ensures within { IsWithinLimits self.now.replica.schema self.now.replica.state.batches }
     {
@@ -152,7 +152,7 @@ impl Store {
         ensures valid { HasBytesIn self.now.replica.schema result.1.now }
     {
         let (name, segment) = self.batches.at(index);
-        segment.is_of_its_vectors();
+        segment.keeps_its_vectors();
         (name, segment)
     }
 

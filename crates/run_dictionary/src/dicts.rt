@@ -125,7 +125,7 @@ impl Dict {
         ensures { result ≡ record { lane_width = values.lane_width; width = width; values = values.values; codes = codes } }
     {
         codes.fit_lanes();
-        values.are_in_range();
+        values.keep_their_range();
         prove!(codes.packed_width() == width);
         Dict { values, codes }
     }

@@ -95,8 +95,8 @@ impl Runs {
         requires count { length values.values ≡ run_of starts 1023 + 1 }
         ensures { result ≡ record { lane_width = values.lane_width; starts = starts; values = values.values } }
     {
-        starts.is_of_1024_rows();
-        values.are_in_range();
+        starts.keeps_1024_rows();
+        values.keep_their_range();
         Runs { starts, values }
     }
 

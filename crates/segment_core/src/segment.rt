@@ -81,7 +81,7 @@ impl Segment {
         ensures widths { widths_in self.new.forms ≡ widths_in self.old.forms }
         ensures valid { (table : Table) → widths_in self.old.forms ≡ widths_of table → HasBytesIn table self.new }
     {
-        self.is_of_its_vectors();
+        self.keeps_its_vectors();
         let made = self.recoded(alloc, column as usize, vector as usize, coding)?;
         self.put(column as usize, vector as usize, made);
         Ok(())
@@ -143,7 +143,7 @@ impl Segment {
     }
 
     /// The law that the rows are those of the vectors, and that the vectors have bytes at their own lane widths.
-    pub fn is_of_its_vectors(&self)
+    pub fn keeps_its_vectors(&self)
         ensures rows { self.now.rows ≡ batch_of (length self.now.rows) self.now.forms }
         ensures form { IsSegment (length self.now.rows) self.now.forms }
         ensures valid { (table : Table) → widths_in self.now.forms ≡ widths_of table → HasBytesIn table self.now }

@@ -44,7 +44,7 @@ impl Segment {
     pub fn write_bytes<W: Write>(&self, writer: &mut Counted<W>) -> Result<(), Refusal>
         ensures { Writes result (W.contents writer.old.0) (W.contents writer.new.0) writer.old.1 writer.new.1 (segment_bytes self.now) }
     {
-        self.is_of_its_vectors();
+        self.keeps_its_vectors();
         write_columns(writer, self.column_list())
     }
 }

@@ -68,7 +68,7 @@ pub(crate) fn write_values<W: Write>(
 pub(crate) fn write_mask<W: Write>(writer: &mut Counted<W>, rows: &Mask) -> Result<(), Refusal>
     ensures { Writes result (W.contents writer.old.0) (W.contents writer.new.0) writer.old.1 writer.new.1 (mask.spell rows.now) }
 {
-    rows.is_of_1024_rows();
+    rows.keeps_1024_rows();
     write_whole(writer, &rows.to_le_bytes())
 }
 

@@ -38,7 +38,7 @@ pub fn names_where(alloc: Global, store: &Store, text: &str) -> Result<Vec<RowNa
 {
     let condition = parse_condition(alloc, text)?;
     resolve_condition(&condition, store.schema())?;
-    store.is_within_limits();
+    store.keeps_its_limits();
     let names = matching(alloc, &mut StoreView::new(store), &condition)?;
     Ok(names)
 }

@@ -58,7 +58,7 @@ fn vector_in(store: &Store, id: VectorId, column: usize) -> &CodedVector
     ensures { HasCells result.now (vector_of store.now.replica.state id) column }
 {
     let (_, segment) = store.batch(id.batch);
-    segment.is_of_its_vectors();
+    segment.keeps_its_vectors();
     let found = segment.vector(column, id.vector);
     found.keeps_its_rule();
     found

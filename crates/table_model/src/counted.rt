@@ -13,6 +13,9 @@ use std::marker::Model;
 /// The most bytes that one call reads: 2^48.
 pub const READ_LIMIT: u64 = 1 << 48;
 
+/// How many bytes one read asks for where an input is read through a buffer: 65,536.
+pub const READ_CHUNK: usize = 65_536;
+
 /// A reader or a writer, and how often it failed. Contracts see it as that pair.
 ///
 /// A failure is a read or a write that answers an error, and a write that takes none of a piece that isn't empty.

@@ -20,7 +20,7 @@ mod truth;
 
 pub use answer::{Answer, AnswerRow, Field};
 pub use check::{MAX_ROWS, MAX_STATE_ROWS, check_rows};
-pub use counted::{Counted, READ_LIMIT};
+pub use counted::{Counted, READ_CHUNK, READ_LIMIT};
 pub use extreme::Extreme;
 pub use identifier::{MAX_WORD, is_identifier, is_keyword, is_word_byte, same_text, same_word};
 pub use laws::{

@@ -28,7 +28,7 @@ pub enum ColType {
 }
 
 impl ColType {
-    /// How many bits a value has: 16, 32 or 64.
+    /// How many bits a value has: 8, 16, 32 or 64.
     pub fn bits(self) -> usize
         ensures { result ≡ bits_of self }
     {
@@ -40,7 +40,7 @@ impl ColType {
         }
     }
 
-    /// The type of this name in SQL, in upper case: SMALLINT, INTEGER or BIGINT.
+    /// The type of this name in SQL, in upper case: TINYINT, SMALLINT, INTEGER or BIGINT.
     pub fn named(text: &str) -> Option<ColType>
         ensures { result ≡ type_named text.now }
     {

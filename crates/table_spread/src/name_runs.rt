@@ -108,7 +108,7 @@ impl NameRuns {
         ensures value { IfOk result (λ copies. copies.items ≡ where_key name_cmp (is_in_run self.now index) (map.entries store.now.segments)) }
         ensures offered { IfOk result (λ copies. AreOffered store.now.replica.schema copies.items) }
     {
-        store.is_within_limits();
+        store.keeps_its_limits();
         let (first, second) = store.parts();
         let mut copies = Vec::new(alloc);
         self.push_copies(alloc, index, first, &mut copies)?;

@@ -205,7 +205,7 @@ impl Mask {
     }
 
     /// The law that a mask is of 1024 rows.
-    pub fn is_of_1024_rows(&self)
+    pub fn keeps_1024_rows(&self)
         ensures { length self.now ≡ 1024 }
     {
         let _ = &self.words;

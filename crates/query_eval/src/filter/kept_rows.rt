@@ -22,7 +22,7 @@ pub(crate) fn has_rows(mask: &Mask) -> bool
     ensures some { IsTrue result → count_by (λ row. row) mask.now ≢ 0 }
     ensures none { result ≡ false → count_by (λ row. row) mask.now ≡ 0 }
 {
-    mask.is_of_1024_rows();
+    mask.keeps_1024_rows();
     mask.next_true(0) < 1024
 }
 

@@ -23,7 +23,7 @@ pub fn span_runs(
     ensures index { OnOk result (IsIndex places.old → IsIndex places.new) }
     ensures spanned { OnOk result (IsSlicing (run_key starts.now values.now) mask.now (rows_of (λ _. false)) places.old places.new (slices_of_spans mask.now spans.new.items)) }
 {
-    mask.is_of_1024_rows();
+    mask.keeps_1024_rows();
     spans.clear();
     let mut start = 0;
     let mut row = mask.next_true(0);

@@ -124,7 +124,7 @@ fn slice_runs(
     ensures index { OnOk result (IsIndex places.old → IsIndex places.new) }
     ensures spanned { IfOk result (λ left. IsSlicing (column_key columns.now) mask.now left places.old places.new (slices_of_spans mask.now spans.new.items)) }
 {
-    mask.is_of_1024_rows();
+    mask.keeps_1024_rows();
     spans.clear();
     let mut start = 0;
     let mut key = Key::empty(alloc);

@@ -20,7 +20,7 @@ pub fn count_at(rows: &Mask) -> usize
     ensures value { (values : List ℤ) → result ≡ length (values_at rows.now values) }
     ensures few { result ≤ 1024 }
 {
-    rows.is_of_1024_rows();
+    rows.keeps_1024_rows();
     rows.count()
 }
 

@@ -85,7 +85,7 @@ fn take_aggregate<C: Columns>(
     ensures read { IsRead (C.seen columns.old) (C.seen columns.new) (aggregate_mentions aggregate) }
 {
     state_is_within_limits(columns);
-    kept.rows.is_of_1024_rows();
+    kept.rows.keeps_1024_rows();
     match aggregate {
         Aggregate::Rows => tally.count_more(kept.rows.count()),
         Aggregate::Folded { place, .. } => {

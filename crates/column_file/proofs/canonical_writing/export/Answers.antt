@@ -17,7 +17,7 @@ pub write_canonical-requires-clause-limit : goal.write_canonical-requires-clause
 write_canonical-requires-clause-limit g c =
     let segments = c.args.store.now.segments in
     let whole = length-append c.parts.result.0.now c.parts.result.1.now in
-    omega (arith, whole, ap length c.parts.ensures.value, ap finite.len c.parts.ensures.rows, len-rows_in segments, finite.len-entries segments, c.is_within_limits.ensures.limit)
+    omega (arith, whole, ap length c.parts.ensures.value, ap finite.len c.parts.ensures.rows, len-rows_in segments, finite.len-entries segments, c.keeps_its_limits.ensures.limit)
 
 pub returns-clause-written : goal.returns-clause-written
 returns-clause-written g c =
@@ -40,7 +40,7 @@ returns-clause-file g c =
     let rows = c.ranges-2.ensures.rows ∙ c.tombs.ensures in
     let few : length c.ranges-2.result.now < 18446744073709551616 = c.ranges-2.type_inv.0 in
     on_ok c.write_canonical.result
-    (λ (numbered : AreNumbered entries). has_file table state c.args.store.now.segments entries c.ranges-2.result.now proper c.is_within_limits.ensures.within c.parts.ensures.rows (sym c.parts.ensures.value) numbered c.ranges-2.ensures.maximal rows few)
+    (λ (numbered : AreNumbered entries). has_file table state c.args.store.now.segments entries c.ranges-2.result.now proper c.keeps_its_limits.ensures.within c.parts.ensures.rows (sym c.parts.ensures.value) numbered c.ranges-2.ensures.maximal rows few)
     c.write_canonical.ensures.numbered
 
 pub returns-clause-opens : goal.returns-clause-opens

@@ -11,4 +11,4 @@ returns-clause-count c = ap length c.in_ok-segment.ensures.rows ∙ length-batch
 pub returns-clause-fits : goal.returns-clause-fits
 returns-clause-fits c =
     let P : Batch → Type 0 = λ rows. IsBatch c.args.schema.now rows in
-    subst P (sym c.is_of_its_vectors.ensures.rows) (segment_fits c.args.schema.now (length c.in_ok-segment.segment.rows) c.in_ok-segment.segment.forms c.is_of_its_vectors.ensures.form c.in_ok-segment.ensures.widths)
+    subst P (sym c.keeps_its_vectors.ensures.rows) (segment_fits c.args.schema.now (length c.in_ok-segment.segment.rows) c.in_ok-segment.segment.forms c.keeps_its_vectors.ensures.form c.in_ok-segment.ensures.widths)

@@ -3,7 +3,7 @@ use Rattle.std.proofs.Common.{subst}
 use Rattle.std.proofs.lemmas.Result.{err_from_is_err_and}
 use Rattle.table_model.specs.Faults.{GaveMore}
 use Rattle.replica_store.specs.Segments.{StoreForm}
-use Rattle.replica_files.proofs.CommandSteps.{reading_counts}
+use Rattle.replica_commands.proofs.CommandSteps.{reading_counts}
 use Rattle.partial_commands.specs.FilePartialAnswers.{WritesPartialAnswer}
 use Rattle.partial_commands.specs.StorePartialAnswer.{query_partial_answer}
 use Rattle.partial_commands.proofs.FileSteps.{file_refused, file_written, reading_partial_answers, answering_partial_answers, answering_counts, read_and_written}

@@ -57,7 +57,7 @@ returns-clause-proper c =
     let f : Formula = c.in_ok-condition.condition in
     subst (λ (l : List RowName). All (λ (row : RowName). IsTrue (is_proper_name row.batch)) l)
     (sym (c.in_ok-names.ensures.value ∙ ap (λ (v : ViewForm). names_where v.table f v.state) c.new.ensures))
-    (names_proper table f state c.is_within_limits.ensures.within)
+    (names_proper table f state c.keeps_its_limits.ensures.within)
 
 pub returns-in_err-condition-clause-refused : goal.returns-in_err-condition-clause-refused
 returns-in_err-condition-clause-refused c =

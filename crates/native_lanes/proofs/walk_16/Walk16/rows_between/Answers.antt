@@ -21,7 +21,7 @@ returns-then-last-eq65535-clause-rows c =
     let number : ℕ → ℕ = number_of_row walk in
     c.all.ensures
     ∙ rows_of-like (λ _. true) (λ n. nat_le c.args.first (number n) && nat_le (number n) c.args.last)
-    (λ n h. sym (each_within (number n) c.args.first c.args.last (2 ^ 16 - 1) c.if-first-eq0.true c.if-last-eq65535.true (number_of_row-below walk 16 n c.has_lanes_of_16.ensures)))
+    (λ n h. sym (each_within (number n) c.args.first c.args.last (2 ^ 16 - 1) c.if-first-eq0.true c.if-last-eq65535.true (number_of_row-below walk 16 n c.keeps_lanes_of_16.ensures)))
 
 pub returns-clause-rows : goal.returns-clause-rows
 returns-clause-rows c =
@@ -32,18 +32,18 @@ returns-clause-rows c =
     (λ n h.
     let place = row_at-lane_of 16 n (inr (inl refl)) h in
     let none : 0 + (2 ^ 16 - c.args.first) ≡ 2 ^ 16 - c.args.first = omega arith in
-    let fits : number n < 2 ^ 16 = omega (arith, number_of_row-below walk 16 n c.has_lanes_of_16.ensures) in
+    let fits : number n < 2 ^ 16 = omega (arith, number_of_row-below walk 16 n c.keeps_lanes_of_16.ensures) in
     let order : c.args.first ≤ c.args.last = omega (arith, c.if-last-first.false) in
     c.marks-marks.ensures (lane_of 16 n) (step_of 16 n) place.0 place.1
-    ∙ ap (λ (x : ℕ). nat_le ((x + (0 + (2 ^ 16 - c.args.first)) % 2 ^ 16) % 2 ^ 16) (c.args.last - c.args.first)) (row_in_lane walk 16 n c.has_lanes_of_16.ensures)
+    ∙ ap (λ (x : ℕ). nat_le ((x + (0 + (2 ^ 16 - c.args.first)) % 2 ^ 16) % 2 ^ 16) (c.args.last - c.args.first)) (row_in_lane walk 16 n c.keeps_lanes_of_16.ensures)
     ∙ ap (λ (o : ℕ). nat_le ((number n + o % 2 ^ 16) % 2 ^ 16) (c.args.last - c.args.first)) none
     ∙ shifted (2 ^ 16) (number n) c.args.first c.args.last fits c.ranges.last.fits order)
 
 pub returns-then-last-first-clause-below : goal.returns-then-last-first-clause-below
-returns-then-last-first-clause-below c = λ n. number_of_row-below c.args.self.now 16 n c.has_lanes_of_16.ensures
+returns-then-last-first-clause-below c = λ n. number_of_row-below c.args.self.now 16 n c.keeps_lanes_of_16.ensures
 
 pub returns-then-last-eq65535-clause-below : goal.returns-then-last-eq65535-clause-below
-returns-then-last-eq65535-clause-below c = λ n. number_of_row-below c.args.self.now 16 n c.has_lanes_of_16.ensures
+returns-then-last-eq65535-clause-below c = λ n. number_of_row-below c.args.self.now 16 n c.keeps_lanes_of_16.ensures
 
 pub returns-clause-below : goal.returns-clause-below
-returns-clause-below c = λ n. number_of_row-below c.args.self.now 16 n c.has_lanes_of_16.ensures
+returns-clause-below c = λ n. number_of_row-below c.args.self.now 16 n c.keeps_lanes_of_16.ensures

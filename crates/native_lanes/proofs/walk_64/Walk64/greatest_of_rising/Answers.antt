@@ -16,6 +16,6 @@ returns c =
       | else-flipped w ↦ ap (λ xs. slice_index xs lane) w.numbers-is ∙ w.last_numbers-numbers.ensures lane h ∙ ap (λ b. number_at walk lane (cond b 0 63)) (sym w.if-flipped.false)
     ] in
     c.greatest_of_turned.ensures
-    ∙ greatest_of_walk walk c.args.rows.now 64 flipped (λ lane. turned 64 flipped (slice_index numbers lane)) (inr (inr (inr refl))) c.has_lanes_of_64.ensures
+    ∙ greatest_of_walk walk c.args.rows.now 64 flipped (λ lane. turned 64 flipped (slice_index numbers lane)) (inr (inr (inr refl))) c.keeps_lanes_of_64.ensures
     (λ lane h. ap (turned 64 flipped) (number lane h)
     ∙ lane_of_rising walk c.args.rows.now flipped 64 lane 63 (λ s l. c.requires.rising lane s h l) (λ s l. c.requires.all lane s h l))

@@ -19,7 +19,7 @@ loop-run-init c = record {
   none = c.next_true-row.ensures.none;
   run = λ l. count_below-zero (λ i. has c.args.starts.now (suc i));
   index = λ h. h;
-  spanned = λ by v shown h. spanned_none by v c.args.mask.now c.args.places.now.index c.clear.new.self.items c.is_of_1024_rows.ensures c.clear.ensures.items;
+  spanned = λ by v shown h. spanned_none by v c.args.mask.now c.args.places.now.index c.clear.new.self.items c.keeps_1024_rows.ensures c.clear.ensures.items;
 }
 
 pub loop-run-preserved : goal.loop-run-preserved

@@ -10,7 +10,7 @@ pub loop-init : goal.loop-init
 loop-init c = record {
   within = omega arith;
   index = λ h. h;
-  spanned = λ by v shown h. spanned_none by v c.args.mask.now c.args.places.now.index c.clear.new.self.items c.is_of_1024_rows.ensures c.clear.ensures.items;
+  spanned = λ by v shown h. spanned_none by v c.args.mask.now c.args.places.now.index c.clear.new.self.items c.keeps_1024_rows.ensures c.clear.ensures.items;
 }
 
 pub returns-then-first-eq1024-clause-spanned : goal.returns-then-first-eq1024-clause-spanned

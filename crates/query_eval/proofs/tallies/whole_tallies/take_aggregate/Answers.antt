@@ -16,7 +16,7 @@ returns-in-Rows-clause-held g c = λ rows h.
     let mask = c.args.kept.now.rows in
     let t = c.args.tally.now in
     let u = c.count_more.new.self in
-    let many = c.count.ensures ∙ sym (length-rows_at v mask c.is_of_1024_rows.ensures) in
+    let many = c.count.ensures ∙ sym (length-rows_at v mask c.keeps_1024_rows.ensures) in
     subst (λ (a : Aggregate). IsHeld (rows ++ rows_at v mask) a u) (sym c.in-Rows.is)
     (held_rows v mask rows t u c.count.result many (λ values more kind is b. c.count_more.ensures.values values more kind is b) c.count_more.ensures.kind (subst (λ (a : Aggregate). IsHeld rows a t) c.in-Rows.is h))
 

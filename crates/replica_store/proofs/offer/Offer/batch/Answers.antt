@@ -59,4 +59,4 @@ pub returns-clause-valid : goal.returns-clause-valid
 returns-clause-valid c =
     let below = count c.args.self.now c.entries.result.now c.args.index c.entries.ensures.value c.entries.ensures.rows c.requires in
     let here = stored c.args.self.now c.entries.result.now c.args.index c.index-entries-index.result c.entries.ensures.offered below c.index-entries-index.is in
-    c.is_of_its_vectors.ensures.valid c.args.self.now.schema here.widths
+    c.keeps_its_vectors.ensures.valid c.args.self.now.schema here.widths

@@ -44,4 +44,4 @@ returns-clause-widths c =
 pub returns-clause-valid : goal.returns-clause-valid
 returns-clause-valid c =
     let here = IsStored-at c.self.inside.schema c.self.inside.batches.segments c.args.index (c.at.result.0, c.at.result.1.now) c.self.invariant.stored c.at.ensures in
-    c.is_of_its_vectors.ensures.valid c.args.self.now.replica.schema (here.widths ∙ ap (λ (s : StoreForm). widths_of s.replica.schema) c.self.view_is)
+    c.keeps_its_vectors.ensures.valid c.args.self.now.replica.schema (here.widths ∙ ap (λ (s : StoreForm). widths_of s.replica.schema) c.self.view_is)

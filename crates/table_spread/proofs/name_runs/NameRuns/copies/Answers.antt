@@ -26,5 +26,5 @@ returns-clause-offered c =
     ∙ ap (where_key name_cmp p) c.parts.ensures.value in
     subst (AreOffered table) (sym items)
     (offered_where p table c.args.store.now.segments
-    (subst (λ (m : map.FinMap name_cmp Batch). map.len m ≤ batch_limit) c.parts.ensures.rows c.is_within_limits.ensures.limit)
+    (subst (λ (m : map.FinMap name_cmp Batch). map.len m ≤ batch_limit) c.parts.ensures.rows c.keeps_its_limits.ensures.limit)
     (subst (All (IsStored table)) c.parts.ensures.value (All-append (IsStored table) first second c.parts.ensures.first c.parts.ensures.second)))

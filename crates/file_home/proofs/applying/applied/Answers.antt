@@ -1,0 +1,19 @@
+use Rattle.std.specs.Prelude.{ℕ, List, ◌==◌, not, Ok}
+use Rattle.std.specs.Global.{Vec}
+use Rattle.std.proofs.Common.{ap, sym, refl, ◌∙◌, Bor}
+use Rattle.replica_commands.specs.Commands.{applying}
+use Rattle.replica_commands.specs.declared.applying.Applied.{Applied}
+use Rattle.file_home.proofs.CrashProofs.{changes_at}
+use Rattle.file_home.proofs.Whys.{refused_at}
+use Rattle.file_home.proofs.applying.applied.Goals as goal
+
+pub returns-in-Ok : goal.returns-in-Ok
+returns-in-Ok c =
+    changes_at (λ (d : Applied). (d.batches, d.ranges, d.new)) (λ (d : Applied). d.is_changed) (Ok c.in-Ok.answer) (applying c.args.offers.items) c.args.file.now _ _ _ _
+    (ap (λ (w : Bor (List ℕ) × ℕ). w.0.now) c.new-2.ensures) (ap (λ (w : Vec ℕ × ℕ). w.0.items) c.new-writer.ensures ∙ c.new.ensures.items)
+    (sym (ap (λ (w : Vec ℕ). w.items) c.into_inner.ensures)) c.in-Ok.ensures.made
+
+pub returns-in-Err : goal.returns-in-Err
+returns-in-Err c =
+    refused_at (λ (d : Applied). (d.batches, d.ranges, d.new)) (λ (d : Applied). d.is_changed) c.in-Err.refusal (applying c.args.offers.items) c.args.file.now _ _ _ _
+    (ap (λ (w : Bor (List ℕ) × ℕ). w.0.now) c.new-2.ensures) c.refusal_over_memory.ensures c.in-Err.ensures.made

@@ -1,0 +1,55 @@
+//! Forgetting batches of a file.
+ghost use Rattle.std.specs.Prelude.{◌≢◌, ◌==◌, not, [], Some, Ok, IfOk, IfErr, MatchResult};
+ghost use Rattle.std.specs.String.{string_bytes};
+ghost use Rattle.table_model.specs.declared.refusal.Refusal.TheVariants.{WriteFault};
+ghost use Rattle.file_replacing.specs.Owning.{GivesBack};
+ghost use Rattle.file_replacing.specs.Safe.{StaysOld};
+ghost use Rattle.replica_commands.specs.Commands.{Changes};
+ghost use Rattle.replica_commands.specs.Forgetting.{forgetting};
+ghost use Rattle.file_home.specs.CrashLaws.{BeforeOrAfter, HasAnswered};
+ghost use Rattle.file_home.specs.Refused.{IsRefusedOver, IsWhyRefused};
+
+use crate::Outcome;
+use crate::under_lock::{finish, leave, read_file, refusal_over_memory};
+use file_replacing::{Folder, Place};
+use replica_store::Forgotten;
+use std::alloc::Global;
+use table_model::{Counted, Refusal};
+
+/// What a forget answers, and the bytes that it wrote, which are none if no batch was dropped.
+fn forgotten(alloc: Global, file: &[u8]) -> Result<(Forgotten, Vec<u8>), Refusal>
+    ensures { MatchResult result
+        (λ made. Changes (λ answer. (answer.batches, answer.rows)) (λ answer. not (answer.batches == 0)) (Ok made.0) (Some file.now) (Some []) (Some made.1.items) forgetting)
+        (λ e. IsRefusedOver forgetting file.now e) }
+{
+    let mut writer = Counted::new(Vec::new(alloc));
+    match replica_commands::forget(alloc, &mut Counted::new(file), &mut writer) {
+        Ok(answer) => Ok((answer, writer.into_inner())),
+        Err(refusal) => Err(refusal_over_memory(refusal)),
+    }
+}
+
+/// Drops the batches of which every row is deleted, of a file whose lock the caller has, under the refusals of [`replica_commands::forget`].
+pub fn forget<F: Folder>(
+    alloc: Global,
+    folder: &mut F,
+    place: &Place,
+) -> Result<Outcome<Forgotten>, Refusal>
+    ensures any_moment { BeforeOrAfter forgetting (string_bytes place.now.lock) (string_bytes place.now.name) (F.history folder.old) (F.history folder.new) }
+    ensures answered { IfOk result (λ done. HasAnswered (λ answer. (answer.batches, answer.rows)) forgetting done.answer done.left (string_bytes place.now.lock) (string_bytes place.now.name) (F.history folder.old) (F.history folder.new)) }
+    ensures refused { IfErr result (λ e. e ≢ WriteFault → StaysOld (string_bytes place.now.lock) (string_bytes place.now.name) (F.history folder.old) (F.history folder.new)) }
+    ensures why { IfErr result (λ e. IsWhyRefused forgetting (string_bytes place.now.name) (F.history folder.old) (F.history folder.new) e) }
+    ensures own { GivesBack (string_bytes place.now.lock) (F.history folder.old) (F.history folder.new) }
+{
+    let old = read_file(alloc, folder, place)?;
+    match forgotten(alloc, old.as_slice()) {
+        Ok((answer, new)) => {
+            let left = finish(folder, place, answer.batches != 0, new.as_slice())?;
+            Ok(Outcome { answer, left })
+        }
+        Err(refusal) => {
+            leave(folder, place);
+            Err(refusal)
+        }
+    }
+}

@@ -1,6 +1,0 @@
-use Rattle.std.proofs.Common.{sym, ap}
-use Rattle.native_lanes.specs.Walks.{Walk}
-use Rattle.native_lanes.proofs.walk_16.Walk16.has_lanes_of_16.Goals as goal
-
-pub returns : goal.returns
-returns c = ap (λ (w : Walk). w.lane_width) (sym c.self.view_is)

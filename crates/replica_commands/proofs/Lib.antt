@@ -1,0 +1,16 @@
+pub mod CommandsBring
+pub mod CommandSteps
+pub mod CsvLoading
+pub mod StoppedLoads
+pub mod DrawnNames
+pub mod FileLaws
+pub mod FileMerges
+pub mod ForgetCounts
+pub mod ForgetFiles
+pub mod Imports
+pub mod LoadedBatches
+pub mod OperationSets
+pub mod StoreCommands
+pub mod DumpRows
+pub mod RefusedOnFile
+pub mod ReadersInTurn

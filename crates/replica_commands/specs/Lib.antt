@@ -1,0 +1,9 @@
+pub mod Commands
+pub mod Brings
+pub mod CsvLoads
+pub mod FileLaws
+pub mod ForgetFileLaws
+pub mod Forgetting
+pub mod Loads
+pub mod DumpLaws
+pub mod Refusals

@@ -1,0 +1,26 @@
+//! The commands on a replica in a file, as calls over readers and writers, and what each brings to a store that is held.
+#![tactic(auto)]
+
+mod applying;
+mod bringing;
+mod csv_reading;
+mod deleting;
+mod file_writing;
+mod forgetting;
+mod importing;
+mod laws;
+mod load;
+mod merging;
+mod naming;
+mod new_file;
+
+pub use applying::{Applied, apply, apply_all, apply_offers};
+pub use bringing::{bring_deletes, bring_load, bring_offers};
+pub use csv_reading::read_csv;
+pub use deleting::{Deleted, DeletedRows, delete, delete_rows};
+pub use forgetting::{forget, forget_dead};
+pub use importing::{Imported, import, import_load};
+pub use laws::{drawn_names_are_free, dump_laws, file_laws, forget_file_laws};
+pub use load::Load;
+pub use merging::merge;
+pub use new_file::{create, file_schema};

@@ -1,0 +1,14 @@
+pub mod AskedTexts
+pub mod BatchCounting
+pub mod CountedBatches
+pub mod DumpLines
+pub mod DecodedRooms
+pub mod DumpChoices
+pub mod LinesTold
+pub mod LinesInColumns
+pub mod FiguresAsked
+pub mod VectorParts
+pub mod ColumnLines
+pub mod ReportTexts
+pub mod RefusedTold
+pub mod LiveRows

@@ -1,0 +1,12 @@
+pub mod Asking
+pub mod ColumnFigures
+pub mod ColumnTexts
+pub mod Counts
+pub mod DumpColumnLaws
+pub mod DumpRooms
+pub mod Dumps
+pub mod QueryLines
+pub mod RefusedLines
+pub mod Reports
+pub mod Held
+pub mod ReadAndWritten
