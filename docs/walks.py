@@ -14,7 +14,7 @@ CRATES = TOP / "crates"
 SIBLINGS = {
     "A column type": (r"\bTINYINT\b|\bTiny\w*", []),
     "A step of a script": (r"\bServe\b|\bServed\b", ["cluster_history", "script_lines", "lanes_main"]),
-    "A command of the program": (r"\bForget\b|\bforget\b|\bFinish\b|\bpub fn finish\b", ["command_line", "lanes", "file_home", "replica_files"]),
+    "A command of the program": (r"\bForget\b|\bforget\b|\bFinish\b|\bpub fn finish\b", ["command_line", "lanes", "file_home", "replica_reading", "replica_commands"]),
     "A set function": (r"\bAVG\b|\bAvg\b", []),
     "A refusal": (r"\bNotGrouped\b|\bNOT_GROUPED\b", []),
     "A call of the library for C": (r"\blanes_finish\b", []),
