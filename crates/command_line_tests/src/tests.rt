@@ -54,7 +54,7 @@ const TEXTS: [(&[&str], &str); 17] = [
     (&["lanes", "pack", "--help"], PACK_HELP),
     (&["lanes", "partial", "--help"], PARTIAL_HELP),
     (&["lanes", "combine", "--help"], COMBINE_HELP),
-    (&["lanes", "--version"], "lanes 0.6.1\n"),
+    (&["lanes", "--version"], "lanes 0.7.0\n"),
     (
         &["lanes"],
         "error: 'lanes' requires a subcommand but one was not provided\n  [subcommands: create, import, query, partial, combine, finish, delete, delete-rows, forget, dump, inspect, summary, offer, apply, check, merge, spread, pack, run, help]\n\nUsage: lanes <COMMAND>\n\nFor more information, try '--help'.\n",

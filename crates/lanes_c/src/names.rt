@@ -11,7 +11,7 @@ use std::alloc::{AllocError, Global};
 use table_model::{BatchName, Number, Origin, Refusal};
 
 /// The library's version, which is the program's.
-const VERSION: &str = "0.6.1";
+const VERSION: &str = "0.7.0";
 
 /// The sentence of a closed handle.
 const CLOSED: &str = "no file is open in this handle";
@@ -228,10 +228,10 @@ pub extern "C" fn lanes_sentence(alloc: Global, number: u8, place: &Place, room:
     }
 }
 
-/// Gives the library's version, as `0.6.1`, and its length.
+/// Gives the library's version, as `0.7.0`, and its length.
 #[unsafe(no_mangle)]
 pub extern "C" fn lanes_version(room: &mut [u8]) -> usize
-    ensures { IsFilled (λ text. text ≡ codes "0.6.1") result room.old room.new }
+    ensures { IsFilled (λ text. text ≡ codes "0.7.0") result room.old room.new }
 {
     fill(VERSION.as_bytes(), room);
     VERSION.len()
