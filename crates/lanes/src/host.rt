@@ -1,4 +1,4 @@
-//! What the program needs of where it runs.
+//! What the program needs of the system.
 
 use std::fs::{File, Files};
 use std::random::RandomSource;
