@@ -1,4 +1,4 @@
-//! Where a table is: in a file, or in a folder of parts.
+//! What holds a table: a file, or a folder of parts.
 
 use std::fs::{self, Files};
 
