@@ -1,6 +1,6 @@
 //! Why a command failed, and what a person reads of it.
 
-use crate::folders::is_folder;
+use crate::home::is_folder;
 use crate::watched::Cause;
 use command_line::Fault;
 use refusal_sentences::{
@@ -265,6 +265,42 @@ impl Failure {
         Failure {
             pointer,
             ..Failure::new(alloc, sentence)
+        }
+    }
+
+    /// A refusal of a condition over a table, if its table is known.
+    pub fn of_condition(
+        alloc: Global,
+        refusal: Refusal,
+        subject: &str,
+        condition: &str,
+        schema: Option<&Schema>,
+    ) -> Failure {
+        let text = Text {
+            text: condition,
+            is_condition: true,
+            schema,
+        };
+        Failure::of_text(alloc, refusal, subject, text)
+    }
+
+    /// A refusal of a change of a file or a folder, if no more is known of it.
+    pub fn of_change<R: Files + AllocGlobal>(
+        rt: &R,
+        refusal: CommandRefusal,
+        name: &str,
+    ) -> Failure {
+        match refusal {
+            CommandRefusal::Named(Refusal::BadRange(_)) => {
+                Failure::of_argument(rt.alloc(), refusal)
+            }
+            CommandRefusal::Named(Refusal::Conflict(_)) => {
+                Failure::of_held(rt.alloc(), refusal, name)
+            }
+            CommandRefusal::Named(
+                Refusal::BadName | Refusal::BadSchema | Refusal::NumbersSpent | Refusal::Memory,
+            ) => Failure::of(rt.alloc(), refusal),
+            _ => Failure::of_file(rt, refusal, name),
         }
     }
 

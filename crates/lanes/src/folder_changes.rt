@@ -1,15 +1,15 @@
 //! The commands that change a folder of parts: what each brings is put into it as one more part.
 
-use crate::change::Answer;
-use crate::changing::{
-    is_there, load_of, of_other_table, random_words, read_offers, refused_alone, with_columns,
-};
+use crate::change::{Answer, Done};
 use crate::failure::Failure;
 use crate::folders::{Opened, open_folder, read_heads};
+use crate::home::is_there;
+use crate::host::Host;
 use crate::judged_puts::put_judged;
-use crate::offer_tables::OfferTables;
+use crate::loading::{load_of, random_words};
+use crate::offers::{OfferTables, of_other_table, read_offers};
 use crate::progress::Progress;
-use crate::putting::{keep_all, make_folder, put_part, say};
+use crate::putting::{keep_all, make_folder, put_part, unmade};
 use command_line::{CsvForm, Source};
 use file_home::{HeldRows, Left};
 use folder_home::{
@@ -19,27 +19,15 @@ use refusal_sentences::{CommandRefusal, is_of_a_text};
 use replica_commands::DeletedRows;
 use replica_reading::OpenFile;
 use replica_store::Store;
-use std::fs::{File, Files};
-use std::random::RandomSource;
-use std::rt::Clock;
 use table_model::{BatchName, ColType, Counted, Refusal, RowName};
 
-/// A failed write to memory is `Memory`.
-pub fn in_memory(refusal: Refusal) -> CommandRefusal {
-    match refusal {
-        Refusal::WriteFault => CommandRefusal::from(Refusal::Memory),
-        other => CommandRefusal::from(other),
-    }
-}
-
 /// Makes a folder that has the empty table as its one part.
-pub fn create<R: Print + Eprint + Files<File = File> + RandomSource + AllocGlobal + Clone + Drop>(
+pub fn create<R: Host>(
     rt: &R,
     folder: &str,
     table: &str,
     columns: &[(&str, ColType)],
-    is_quiet: bool,
-) -> Result<(), Failure> {
+) -> Result<Done, Failure> {
     if is_there(rt, folder.trim_end_matches('/')) {
         return Err(Failure::of_file(rt, CommandRefusal::Exists, folder));
     }
@@ -47,199 +35,137 @@ pub fn create<R: Print + Eprint + Files<File = File> + RandomSource + AllocGloba
     match replica_commands::create(rt.alloc(), table, columns, &mut writer) {
         Ok(()) => {}
         Err(Refusal::BadSchema) => return Err(Failure::of_names(rt.alloc(), table, columns)),
-        Err(refusal) => return Err(refused_alone(rt, folder, in_memory(refusal))),
+        Err(refusal) => return Err(unmade(rt, folder, refusal)),
     }
     let replaced = make_folder(rt, folder, writer.into_inner().as_slice())?;
-    say(
-        rt,
-        folder,
-        Answer::Created,
-        Left::Changed(replaced),
-        is_quiet,
-    )
+    Ok(Done::new(Answer::Created, Left::Changed(replaced)))
 }
 
 /// Puts the rows of comma-separated values into a folder as one part, under names that are drawn or begin with the one that is given.
-pub fn import<
-    R: Print
-        + Eprint
-        + Input
-        + Files<File = File>
-        + Clock
-        + RandomSource
-        + AllocGlobal
-        + Clone
-        + Drop,
->(
+pub fn import<R: Host>(
     rt: &R,
     progress: &Progress<'_, R>,
     folder: &str,
     csvs: &[Source<'_>],
     first: Option<BatchName>,
     form: CsvForm<'_>,
-    is_quiet: bool,
-) -> Result<(), Failure> {
+) -> Result<Done, Failure> {
     match first {
-        Some(first) => import_named(rt, progress, folder, csvs, first, form, is_quiet),
-        None => import_drawn(rt, progress, folder, csvs, form, is_quiet),
+        Some(first) => import_named(rt, progress, folder, csvs, first, form),
+        None => import_drawn(rt, progress, folder, csvs, form),
     }
 }
 
 /// The same under names that are drawn, for which only the heads of the parts are read.
-fn import_drawn<
-    R: Print
-        + Eprint
-        + Input
-        + Files<File = File>
-        + Clock
-        + RandomSource
-        + AllocGlobal
-        + Clone
-        + Drop,
->(
+fn import_drawn<R: Host>(
     rt: &R,
     progress: &Progress<'_, R>,
     folder: &str,
     csvs: &[Source<'_>],
     form: CsvForm<'_>,
-    is_quiet: bool,
-) -> Result<(), Failure> {
+) -> Result<Done, Failure> {
     let heads = read_heads(rt, folder)?;
     let load = load_of(rt, progress, csvs, &heads.schema, form)?;
     if let Err(refusal) = check_room(heads.batches.as_slice(), load.batches() as u32) {
-        return Err(refused_alone(rt, folder, CommandRefusal::from(refusal)));
+        return Err(Failure::of_change(rt, CommandRefusal::from(refusal), folder));
     }
     let words = random_words(rt)?;
     let mut writer = Counted::new(Vec::new(rt.alloc()));
     match part_of_load(rt.alloc(), load, &words, &mut writer) {
-        Ok(done) if done.new == 0 => {
-            say(rt, folder, Answer::Imported(done), Left::Kept, is_quiet)
-        }
+        Ok(done) if done.new == 0 => Ok(Done::new(Answer::Imported(done), Left::Kept)),
         Ok(done) => {
             let replaced = put_part(rt, folder, writer.into_inner().as_slice())?;
-            say(
-                rt,
-                folder,
-                Answer::Imported(done),
-                Left::Changed(replaced),
-                is_quiet,
-            )
+            Ok(Done::new(Answer::Imported(done), Left::Changed(replaced)))
         }
-        Err(refusal) => Err(refused_alone(rt, folder, in_memory(refusal))),
+        Err(refusal) => Err(unmade(rt, folder, refusal)),
     }
 }
 
 /// The same under names that begin with one that is given. Of two such loads at once under one name with other rows the second is
 /// refused.
-fn import_named<
-    R: Print
-        + Eprint
-        + Input
-        + Files<File = File>
-        + Clock
-        + RandomSource
-        + AllocGlobal
-        + Clone
-        + Drop,
->(
+fn import_named<R: Host>(
     rt: &R,
     progress: &Progress<'_, R>,
     folder: &str,
     csvs: &[Source<'_>],
     first: BatchName,
     form: CsvForm<'_>,
-    is_quiet: bool,
-) -> Result<(), Failure> {
+) -> Result<Done, Failure> {
     let opened: Opened<Store> = open_folder(rt, progress, folder)?;
     let load = load_of(rt, progress, csvs, opened.held.schema(), form)?;
     let mut writer = Counted::new(Vec::new(rt.alloc()));
     match part_of_named_load(rt.alloc(), &opened.held, load, first, &mut writer) {
         Ok(done) if done.new == 0 => {
             let left = keep_all(rt, folder, &opened.parts);
-            say(rt, folder, Answer::Imported(done), left, is_quiet)
+            Ok(Done::new(Answer::Imported(done), left))
         }
         Ok(done) => {
             let bytes = writer.into_inner();
             let replaced = put_judged(rt, folder, &opened.parts, bytes.as_slice())?;
-            say(
-                rt,
-                folder,
-                Answer::Imported(done),
-                Left::Changed(replaced),
-                is_quiet,
-            )
+            Ok(Done::new(Answer::Imported(done), Left::Changed(replaced)))
         }
-        Err(refusal) => Err(refused_alone(rt, folder, in_memory(refusal))),
+        Err(refusal) => Err(unmade(rt, folder, refusal)),
     }
 }
 
 /// Puts the deletions of the rows for which a condition is true into a folder as one part.
-pub fn delete<
-    R: Print + Eprint + Files<File = File> + Clock + RandomSource + AllocGlobal + Clone + Drop,
->(
+pub fn delete<R: Host>(
     rt: &R,
     progress: &Progress<'_, R>,
     folder: &str,
     condition: &str,
-    is_quiet: bool,
-) -> Result<(), Failure> {
+) -> Result<Done, Failure> {
     let opened: Opened<OpenFile> = open_folder(rt, progress, folder)?;
     let mut writer = Counted::new(Vec::new(rt.alloc()));
     match part_of_deletes(rt.alloc(), opened.held.store(), condition, &mut writer) {
         Ok(done) if done.rows == 0 => {
             let left = keep_all(rt, folder, &opened.parts);
-            say(rt, folder, Answer::Deleted(done), left, is_quiet)
+            Ok(Done::new(Answer::Deleted(done), left))
         }
         Ok(done) => {
             let replaced = put_part(rt, folder, writer.into_inner().as_slice())?;
-            say(
-                rt,
-                folder,
-                Answer::Deleted(done),
-                Left::Changed(replaced),
-                is_quiet,
-            )
+            Ok(Done::new(Answer::Deleted(done), Left::Changed(replaced)))
         }
         Err(refusal) if is_of_a_text(refusal) => {
             let schema = Some(opened.held.schema());
-            Err(with_columns(rt.alloc(), refusal, condition, schema))
+            Err(Failure::of_condition(rt.alloc(), refusal, "", condition, schema))
         }
-        Err(refusal) => Err(refused_alone(rt, folder, in_memory(refusal))),
+        Err(refusal) => Err(unmade(rt, folder, refusal)),
     }
 }
 
 /// Puts the deletion of rows by their names into a folder as one part.
-pub fn delete_rows<
-    R: Print + Eprint + Files<File = File> + Clock + RandomSource + AllocGlobal + Clone + Drop,
->(rt: &R, folder: &str, first: RowName, last: u16, is_quiet: bool) -> Result<(), Failure> {
+pub fn delete_rows<R: Host>(
+    rt: &R,
+    folder: &str,
+    first: RowName,
+    last: u16,
+) -> Result<Done, Failure> {
     let heads = read_heads(rt, folder)?;
     let mut writer = Counted::new(Vec::new(rt.alloc()));
     match part_of_rows(rt.alloc(), &heads.schema, first, last, &mut writer) {
         Ok(()) => {
             let replaced = put_part(rt, folder, writer.into_inner().as_slice())?;
             let answer = Answer::DeletedRows(DeletedRows { is_changed: true });
-            say(rt, folder, answer, Left::Changed(replaced), is_quiet)
+            Ok(Done::new(answer, Left::Changed(replaced)))
         }
-        Err(refusal) => Err(refused_alone(rt, folder, in_memory(refusal))),
+        Err(refusal) => Err(unmade(rt, folder, refusal)),
     }
 }
 
 /// Puts the deletion of rows by their names into a folder as one part, if a part of the folder holds their batch.
-pub fn delete_held_rows<
-    R: Print + Eprint + Files<File = File> + Clock + RandomSource + AllocGlobal + Clone + Drop,
->(
+pub fn delete_held_rows<R: Host>(
     rt: &R,
     progress: &Progress<'_, R>,
     folder: &str,
     first: RowName,
     last: u16,
-    is_quiet: bool,
-) -> Result<(), Failure> {
+) -> Result<Done, Failure> {
     let opened: Opened<OpenFile> = open_folder(rt, progress, folder)?;
     let mut writer = Counted::new(Vec::new(rt.alloc()));
     let schema = opened.held.schema();
     if let Err(refusal) = part_of_rows(rt.alloc(), schema, first, last, &mut writer) {
-        return Err(refused_alone(rt, folder, in_memory(refusal)));
+        return Err(unmade(rt, folder, refusal));
     }
     let is_held = opened
         .held
@@ -256,28 +182,17 @@ pub fn delete_held_rows<
         is_held,
         is_changed: is_held,
     };
-    say(rt, folder, Answer::DeletedHeldRows(answer), left, is_quiet)
+    Ok(Done::new(Answer::DeletedHeldRows(answer), left))
 }
 
 /// Puts what offers bring into a folder as one part, all or none. Of two applies at once that have other rows under one name the second
 /// is refused.
-pub fn apply<
-    R: Print
-        + Eprint
-        + Input
-        + Files<File = File>
-        + Clock
-        + RandomSource
-        + AllocGlobal
-        + Clone
-        + Drop,
->(
+pub fn apply<R: Host>(
     rt: &R,
     progress: &Progress<'_, R>,
     folder: &str,
     sources: &[Source<'_>],
-    is_quiet: bool,
-) -> Result<(), Failure> {
+) -> Result<Done, Failure> {
     let opened: Opened<Store> = open_folder(rt, progress, folder)?;
     let offers = read_offers(rt, progress, sources)?;
     let tables = OfferTables::of(rt.alloc(), offers.as_slice())?;
@@ -285,24 +200,18 @@ pub fn apply<
     match part_of_offers(rt.alloc(), &opened.held, offers, &mut writer) {
         Ok(done) if !done.is_changed => {
             let left = keep_all(rt, folder, &opened.parts);
-            say(rt, folder, Answer::Applied(done), left, is_quiet)
+            Ok(Done::new(Answer::Applied(done), left))
         }
         Ok(done) => {
             let bytes = writer.into_inner();
             let replaced = put_judged(rt, folder, &opened.parts, bytes.as_slice())?;
-            say(
-                rt,
-                folder,
-                Answer::Applied(done),
-                Left::Changed(replaced),
-                is_quiet,
-            )
+            Ok(Done::new(Answer::Applied(done), Left::Changed(replaced)))
         }
         Err(Refusal::SchemaDiffers) => {
             let schema = opened.held.schema();
             let found = tables.other_than(schema);
             Err(of_other_table(rt, folder, schema, found, sources))
         }
-        Err(refusal) => Err(refused_alone(rt, folder, in_memory(refusal))),
+        Err(refusal) => Err(unmade(rt, folder, refusal)),
     }
 }

@@ -2,20 +2,15 @@
 
 use crate::failure::Failure;
 use crate::folders::{Opened, Parts, open_folder};
+use crate::host::Host;
 use crate::progress::Progress;
 use crate::reports::write_line;
 use command_line::ReportForm;
 use replica_reading::OpenFile;
-use std::fs::{File, Files};
-use std::rt::Clock;
 use table_model::Counted;
 
 /// Says how much is in a folder, how many parts it has, and how many other names.
-pub fn check<R: Print + Eprint + Files<File = File> + Clock + AllocGlobal + Clone + Drop>(
-    rt: &R,
-    progress: &Progress<'_, R>,
-    folder: &str,
-) -> Result<(), Failure> {
+pub fn check<R: Host>(rt: &R, progress: &Progress<'_, R>, folder: &str) -> Result<(), Failure> {
     let opened: Opened<OpenFile> = open_folder(rt, progress, folder)?;
     let Opened { held, parts } = opened;
     let batches = held.store().batches();
@@ -29,7 +24,7 @@ pub fn check<R: Print + Eprint + Files<File = File> + Clock + AllocGlobal + Clon
 }
 
 /// Writes what a folder holds and how its columns are coded, with how many parts it has, and how many other names.
-pub fn inspect<R: Print + Eprint + Files<File = File> + Clock + AllocGlobal + Clone + Drop>(
+pub fn inspect<R: Host>(
     rt: &R,
     progress: &Progress<'_, R>,
     folder: &str,

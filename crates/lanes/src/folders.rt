@@ -2,21 +2,24 @@
 
 use crate::beginning::Beginning;
 use crate::failure::Failure;
+use crate::front::{Front, read_front};
 use crate::heads::{Headed, Heads};
+use crate::home::is_folder;
+use crate::host::Host;
+use crate::looks::Looks;
 use crate::part_failures::{HeadedPart, Unread, busy, of_folder, path_at, why_unread};
 use crate::parts::{Opening, PartFile, Untold};
 use crate::progress::{PartCount, Progress, ToldOpening};
 use folder_home::{
     HEAD_BYTES, Head, Part, PartRefusal, is_part, is_part_name, join_parts, open_parts, part_head,
 };
-use part_folder::{Listing, Patience, is_link, list, list_locked, path_in};
+use part_folder::{Listing, is_link, list, list_locked, path_in};
 use refusal_sentences::CommandRefusal;
 use replica_reading::OpenFile;
 use replica_store::Store;
 use std::alloc::{AllocError, Global};
 use std::fs::{self, File, Files};
 use std::io::{self, ErrorKind, Read};
-use std::rt::Clock;
 use table_model::{Counted, Refusal, Schema};
 
 /// The parts of a folder at one look, by their names and their paths in ascending order, and how many other names it has.
@@ -102,11 +105,7 @@ impl Parts {
     }
 
     /// The parts of a folder, listed under its shared lock. There is at least one.
-    pub fn listed<R: Files<File = File> + Clock + AllocGlobal + Clone + Drop>(
-        rt: &R,
-        folder: &str,
-        is_careful: bool,
-    ) -> Result<Parts, Failure> {
+    pub fn listed<R: Host>(rt: &R, folder: &str, is_careful: bool) -> Result<Parts, Failure> {
         let listing = match list(rt, folder) {
             Ok(listing) => listing,
             Err(fault) => return Err(of_folder(rt.alloc(), folder, fault)),
@@ -166,14 +165,6 @@ impl Parts {
     }
 }
 
-/// Whether a name is that of a folder, or of a link to one.
-pub fn is_folder<R: Files>(rt: &R, name: &str) -> bool {
-    match fs::metadata(rt, name) {
-        Ok(found) => found.is_dir(),
-        Err(_) => false,
-    }
-}
-
 /// The part of a name, which has this path; what is told when it is opened, and what its head comes to.
 pub fn part_of<'r, 'h, R: Files + AllocGlobal, O: Opening + Drop>(
     rt: &'r R,
@@ -212,26 +203,24 @@ pub fn last_of(path: &str) -> &str {
 }
 
 /// What all parts of a folder hold. It says at a terminal how many of them were opened.
-pub fn open_folder<H: Opens, R: Eprint + Files<File = File> + Clock + AllocGlobal + Clone + Drop>(
+pub fn open_folder<H: Opens, R: Host>(
     rt: &R,
     progress: &Progress<'_, R>,
     folder: &str,
 ) -> Result<Opened<H>, Failure> {
-    let mut is_careful = false;
-    let mut patience = Patience::new(rt);
+    let mut looks = Looks::new(rt);
     for _ in 0..u64::MAX {
-        let parts = Parts::listed(rt, folder, is_careful)?;
+        let parts = Parts::listed(rt, folder, looks.is_careful())?;
         let count = PartCount::new(&*progress, &*folder, parts.count());
         let outcome = open_paths(rt, parts.paths(), ToldOpening::new(&count));
         progress.clear();
         match outcome {
             Ok(held) => return Ok(Opened { held, parts }),
-            Err(Unread::Gone) => {}
-            Err(Unread::Folder) => is_careful = true,
-            Err(Unread::Refused(failure)) => return Err(failure),
-        }
-        if !patience.wait(rt) {
-            break;
+            Err(why) => {
+                if !looks.again(rt, why)? {
+                    break;
+                }
+            }
         }
     }
     Err(busy(rt.alloc(), folder))
@@ -256,33 +245,28 @@ fn open_paths<H: Opens, R: Files + AllocGlobal, O: Opening + Drop>(
 }
 
 /// What the heads of a folder's parts say. The smallest part is read whole.
-pub fn read_heads<R: Files<File = File> + Clock + AllocGlobal + Clone + Drop>(
-    rt: &R,
-    folder: &str,
-) -> Result<PartHeads, Failure> {
-    let mut is_careful = false;
-    let mut patience = Patience::new(rt);
+pub fn read_heads<R: Host>(rt: &R, folder: &str) -> Result<PartHeads, Failure> {
+    let mut looks = Looks::new(rt);
     for _ in 0..u64::MAX {
-        let parts = Parts::listed(rt, folder, is_careful)?;
+        let parts = Parts::listed(rt, folder, looks.is_careful())?;
         match heads_of(rt, parts.paths()) {
             Ok(heads) => return Ok(heads),
-            Err(Unread::Gone) => {}
-            Err(Unread::Folder) => is_careful = true,
-            Err(Unread::Refused(failure)) => return Err(failure),
-        }
-        if !patience.wait(rt) {
-            break;
+            Err(why) => {
+                if !looks.again(rt, why)? {
+                    break;
+                }
+            }
         }
     }
     Err(busy(rt.alloc(), folder))
 }
 
-/// The front of a part's file.
+/// What the head of a part's file came to.
 #[derive(Drop)]
-enum Front {
-    /// Its head, and the size of the file.
+enum Found {
+    /// The head, and the size of the file.
     Head(Head, u64),
-    /// It is gone.
+    /// The part is gone.
     Gone,
     /// It is a folder, and so no part.
     Folder,
@@ -315,10 +299,10 @@ fn heads_of<R: Files<File = File> + AllocGlobal>(
     let mut first = 0;
     let mut smallest = (0, u64::MAX);
     for (index, path) in paths.iter().enumerate() {
-        let (head, size) = match front_of(rt, path.as_str(), buffer.as_mut_slice()) {
-            Ok(Front::Head(head, size)) => (head, size),
-            Ok(Front::Gone) => return Err(Unread::Gone),
-            Ok(Front::Folder) => continue,
+        let (head, size) = match head_of(rt, path.as_str(), buffer.as_mut_slice()) {
+            Ok(Found::Head(head, size)) => (head, size),
+            Ok(Found::Gone) => return Err(Unread::Gone),
+            Ok(Found::Folder) => continue,
             Err(why) => return Err(Unread::Refused(of_head(rt, path.as_str(), why))),
         };
         if size < smallest.1 {
@@ -399,29 +383,29 @@ fn open_one<R: Files + AllocGlobal>(
     }
 }
 
-/// The front of a part's file.
-fn front_of<R: Files<File = File> + AllocGlobal>(
+/// The head of a part's file, which is read into this buffer.
+fn head_of<R: Files<File = File> + AllocGlobal>(
     rt: &R,
     path: &str,
     buffer: &mut [u8],
-) -> Result<Front, HeadFault> {
-    match read_front(rt, path, buffer) {
+) -> Result<Found, HeadFault> {
+    match read_head(rt, path, buffer) {
         Ok(Some((count, size))) => {
             let bytes = buffer.get(..count).unwrap_or(&[]);
             match part_head(rt.alloc(), bytes) {
-                Ok(head) => Ok(Front::Head(head, size)),
+                Ok(head) => Ok(Found::Head(head, size)),
                 Err(refusal) => Err(HeadFault::of(refusal, bytes)),
             }
         }
-        Ok(None) => Ok(Front::Folder),
-        Err(error) if error.kind() == ErrorKind::NotFound && !is_link(rt, path) => Ok(Front::Gone),
+        Ok(None) => Ok(Found::Folder),
+        Err(error) if error.kind() == ErrorKind::NotFound && !is_link(rt, path) => Ok(Found::Gone),
         Err(_) => Err(HeadFault::of(Refusal::ReadFault, &[])),
     }
 }
 
-/// Reads the front of a file into a buffer, as much as there is and fits; how many bytes these are, and how many the file has. None for
-/// a folder.
-fn read_front<R: Files<File = File>>(
+/// Reads a file's first bytes into a buffer, as many as there are and fit; how many these are, and how many the file has. None for a
+/// folder.
+fn read_head<R: Files<File = File>>(
     rt: &R,
     path: &str,
     buffer: &mut [u8],
@@ -431,16 +415,9 @@ fn read_front<R: Files<File = File>>(
     if found.is_dir() {
         return Ok(None);
     }
-    let mut count = 0usize;
-    for _ in 0..buffer.len() {
-        let taken = match buffer.get_mut(count..) {
-            Some(rest) => file.read(rest)?,
-            None => 0,
-        };
-        count = count.saturating_add(taken);
-        if taken == 0 || count as u64 >= found.len() {
-            break;
-        }
+    let Front { length, fault } = read_front(&mut file, buffer);
+    match fault {
+        None => Ok(Some((length, found.len()))),
+        Some(error) => Err(error),
     }
-    Ok(Some((count, found.len())))
 }

@@ -1,13 +1,12 @@
 //! Forgetting in a folder: all parts are joined, and what is left of them without dead batches is put in their place.
 
-use crate::change::Answer;
-use crate::changing::refused_alone;
+use crate::change::{Answer, Done};
 use crate::failure::Failure;
-use crate::folder_changes::in_memory;
 use crate::folders::{Opened, open_folder};
+use crate::host::Host;
 use crate::part_failures::busy;
 use crate::progress::Progress;
-use crate::putting::{keep_all, say};
+use crate::putting::{keep_all, unmade};
 use crate::replacing::{Round, replace};
 use file_home::Left;
 use file_replacing::Replaced;
@@ -15,20 +14,19 @@ use folder_home::part_of_forget;
 use part_folder::Patience;
 use replica_store::{Forgotten, Store};
 use std::alloc::Global;
-use std::fs::{File, Files};
-use std::random::RandomSource;
-use std::rt::Clock;
 use table_model::{Counted, Refusal};
 
 /// Drops the batches of a folder of which every row is deleted. If a pack or another forget was there meanwhile, the parts are read
 /// anew, until ten seconds are over.
-pub fn forget_folder<
-    R: Print + Eprint + Files<File = File> + Clock + RandomSource + AllocGlobal + Clone + Drop,
->(rt: &R, progress: &Progress<'_, R>, folder: &str, is_quiet: bool) -> Result<(), Failure> {
+pub fn forget_folder<R: Host>(
+    rt: &R,
+    progress: &Progress<'_, R>,
+    folder: &str,
+) -> Result<Done, Failure> {
     let mut patience = Patience::new(rt);
     for _ in 0..u64::MAX {
         if let Some((done, left)) = forget_once(rt, progress, folder)? {
-            return say(rt, folder, Answer::Forgotten(done), left, is_quiet);
+            return Ok(Done::new(Answer::Forgotten(done), left));
         }
         if !patience.wait(rt) {
             break;
@@ -39,7 +37,7 @@ pub fn forget_folder<
 
 /// Drops the batches that are dead in what all parts hold, and says how the folder is left. If there are none, nothing is put or
 /// removed. None if a pack or another forget was there.
-fn forget_once<R: Eprint + Files<File = File> + Clock + RandomSource + AllocGlobal + Clone + Drop>(
+fn forget_once<R: Host>(
     rt: &R,
     progress: &Progress<'_, R>,
     folder: &str,
@@ -47,7 +45,7 @@ fn forget_once<R: Eprint + Files<File = File> + Clock + RandomSource + AllocGlob
     let Opened { held, parts } = open_folder(rt, progress, folder)?;
     let (done, bytes) = match forgotten(rt.alloc(), held) {
         Ok(made) => made,
-        Err(refusal) => return Err(refused_alone(rt, folder, in_memory(refusal))),
+        Err(refusal) => return Err(unmade(rt, folder, refusal)),
     };
     if done.batches == 0 {
         return Ok(Some((done, keep_all(rt, folder, &parts))));

@@ -2,8 +2,11 @@
 
 use crate::beginning::Beginning;
 use crate::failure::{Failure, INPUT};
-use crate::folders::{Opened, is_folder, open_folder};
+use crate::folders::{Opened, open_folder};
+use crate::front::read_front;
 use crate::heads::schema_in;
+use crate::home::Home;
+use crate::host::Host;
 use crate::progress::{Progress, Told};
 use command_line::Source;
 use either::Either;
@@ -11,7 +14,7 @@ use folder_home::HEAD_BYTES;
 use refusal_sentences::{CommandRefusal, Sentence};
 use replica_commands::file_schema;
 use replica_reading::OpenFile;
-use std::fs::{self, File, Files};
+use std::fs::{self, Files};
 use std::io::{self, Read};
 use std::rt::Clock;
 use table_model::{Counted, Refusal, Schema};
@@ -100,7 +103,7 @@ pub fn name_of<'n>(source: Source<'n>) -> &'n str {
 }
 
 /// A refusal of what was read from a source, by its reader.
-pub fn unread_by<R: Eprint + Input + Files + Clock + AllocGlobal>(
+pub fn unread_by<R: Host>(
     rt: &R,
     refusal: CommandRefusal,
     source: Source<'_>,
@@ -147,42 +150,34 @@ pub fn schema_of<R: Files + AllocGlobal>(rt: &R, file: &str) -> Result<Schema, F
 /// file is not looked at.
 pub fn schema_ahead<R: Files + AllocGlobal>(rt: &R, file: &str) -> Result<Schema, Failure> {
     let mut head = [0u8; HEAD_BYTES];
-    let count = read_front(&mut LazyFile::new(rt, file), &mut head);
-    match schema_in(rt.alloc(), &head[..count.min(HEAD_BYTES)]) {
+    let front = read_front(&mut LazyFile::new(rt, file), &mut head);
+    match schema_in(rt.alloc(), &head[..front.length.min(HEAD_BYTES)]) {
         Some(schema) => Ok(schema),
         None => schema_of(rt, file),
     }
 }
 
-/// Reads the first bytes of a source, and answers how many came. A failed read ends them.
-fn read_front<D: Read>(source: &mut D, room: &mut [u8]) -> usize {
-    let mut filled = 0usize;
-    for _ in 0..room.len() {
-        let Some(rest) = room.get_mut(filled..) else {
-            break;
-        };
-        let count = match source.read(rest) {
-            Ok(count) => count,
-            Err(_) => 0,
-        };
-        if count == 0 {
-            break;
-        }
-        filled = filled.saturating_add(count);
-    }
-    filled
-}
-
 /// What a file or a folder holds, once all of it was read and judged.
-pub fn opened<R: Eprint + Files<File = File> + Clock + AllocGlobal + Clone + Drop>(
+pub fn opened<R: Host>(
     rt: &R,
     progress: &Progress<'_, R>,
     file: &str,
 ) -> Result<OpenFile, Failure> {
-    if is_folder(rt, file) {
-        let opened: Opened<OpenFile> = open_folder(rt, progress, file)?;
-        return Ok(opened.held);
+    match Home::of(rt, file) {
+        Home::File(file) => opened_file(rt, progress, file),
+        Home::Folder(folder) => {
+            let opened: Opened<OpenFile> = open_folder(rt, progress, folder)?;
+            Ok(opened.held)
+        }
     }
+}
+
+/// What a file holds, once all of it was read and judged.
+pub fn opened_file<R: Eprint + Files + Clock + AllocGlobal>(
+    rt: &R,
+    progress: &Progress<'_, R>,
+    file: &str,
+) -> Result<OpenFile, Failure> {
     let told = Told::new(progress, Source::File(file), LazyFile::new(rt, file));
     let mut reader = Counted::new(told);
     match OpenFile::read(rt.alloc(), &mut reader) {
@@ -196,7 +191,7 @@ pub fn opened<R: Eprint + Files<File = File> + Clock + AllocGlobal + Clone + Dro
 }
 
 /// The same of a source, which may be standard input.
-pub fn opened_from<'r, R: Eprint + Input + Files<File = File> + Clock + AllocGlobal + Clone + Drop>(
+pub fn opened_from<'r, R: Host>(
     rt: &'r R,
     progress: &'r Progress<'r, R>,
     source: Source<'_>,

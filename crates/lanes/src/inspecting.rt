@@ -2,7 +2,8 @@
 
 use crate::failure::Failure;
 use crate::folder_reports;
-use crate::folders::is_folder;
+use crate::home::Home;
+use crate::host::Host;
 use crate::inputs::{LazyFile, opened};
 use crate::peeked::Peeked;
 use crate::progress::{Progress, Told};
@@ -13,9 +14,8 @@ use partial_commands::{inspect_partial_answer, inspect_summary};
 use partial_file::read_partial_answer;
 use refusal_sentences::CommandRefusal;
 use replica_reading::{OpenFile, list_batches};
-use std::fs::{File, Files};
+use std::fs::Files;
 use std::io::Read;
-use std::rt::Clock;
 use table_model::Counted;
 
 /// What a partial answer begins with.
@@ -25,16 +25,27 @@ const PARTIAL: &[u8] = b"FLPT";
 const SUMMARY: &[u8] = b"FLSM";
 
 /// Writes what a file holds and how its columns are coded, or a list of its batches; or what a partial answer or a summary covers.
-pub fn inspect<R: Print + Eprint + Files<File = File> + Clock + AllocGlobal + Clone + Drop>(
+pub fn inspect<R: Host>(
     rt: &R,
     progress: &Progress<'_, R>,
     file: &str,
     has_batches: bool,
     form: ReportForm,
 ) -> Result<(), Failure> {
-    if is_folder(rt, file) {
-        return inspect_folder(rt, progress, file, has_batches, form);
+    match Home::of(rt, file) {
+        Home::File(file) => inspect_input(rt, progress, file, has_batches, form),
+        Home::Folder(folder) => inspect_folder(rt, progress, folder, has_batches, form),
     }
+}
+
+/// The same of a file, by the kind of it that its first bytes tell.
+fn inspect_input<R: Host>(
+    rt: &R,
+    progress: &Progress<'_, R>,
+    file: &str,
+    has_batches: bool,
+    form: ReportForm,
+) -> Result<(), Failure> {
     let peeked = Peeked::new(Told::new(progress, Source::File(file), LazyFile::new(rt, file)));
     if has_batches {
         list(rt, file, peeked, form)
@@ -48,7 +59,7 @@ pub fn inspect<R: Print + Eprint + Files<File = File> + Clock + AllocGlobal + Cl
 }
 
 /// Writes what a folder holds, or a list of its batches.
-fn inspect_folder<R: Print + Eprint + Files<File = File> + Clock + AllocGlobal + Clone + Drop>(
+fn inspect_folder<R: Host>(
     rt: &R,
     progress: &Progress<'_, R>,
     folder: &str,

@@ -3,17 +3,17 @@
 use crate::failure::Failure;
 use crate::folders::{Parts, part_of, parts_of};
 use crate::heads::Heads;
+use crate::host::Host;
+use crate::looks::Looks;
 use crate::part_failures::{Unread, busy, of_folder, path_at, why_unread};
 use crate::parts::Untold;
 use crate::putting::{place, unwritten, written};
 use file_replacing::Replaced;
 use folder_home::{PartFault, PartRefusal, join_parts, part_name};
-use part_folder::{FolderFault, FolderLock, Patience, Temporary};
+use part_folder::{FolderFault, FolderLock, Temporary};
 use refusal_sentences::CommandRefusal;
-use std::fs::{File, Files};
+use std::fs::Files;
 use std::io::ErrorKind;
-use std::random::RandomSource;
-use std::rt::Clock;
 use table_model::Refusal;
 
 /// Puts a part into a folder of which these parts were looked at, and with which it goes. It is written first; then, under the folder's
@@ -21,7 +21,7 @@ use table_model::Refusal;
 /// without, and readers find two lists of rows of one name.
 ///
 /// Refused as `Conflict` is a part that has other rows under a name that came since.
-pub fn put_judged<R: Files<File = File> + Clock + RandomSource + AllocGlobal + Clone + Drop>(
+pub fn put_judged<R: Host>(
     rt: &R,
     folder: &str,
     parts: &Parts,
@@ -51,7 +51,7 @@ pub fn put_judged<R: Files<File = File> + Clock + RandomSource + AllocGlobal + C
 }
 
 /// Gives the temporary its name.
-fn placed<R: Files<File = File> + Clock + RandomSource + AllocGlobal + Clone + Drop>(
+fn placed<R: Host>(
     rt: &R,
     folder: &str,
     temporary: Temporary<'_, R>,
@@ -65,23 +65,23 @@ fn placed<R: Files<File = File> + Clock + RandomSource + AllocGlobal + Clone + D
 }
 
 /// Whether a new part goes with those that a folder has and the looked-at ones are not.
-fn judge<R: Files<File = File> + Clock + RandomSource + AllocGlobal + Clone + Drop>(
+fn judge<R: Host>(
     rt: &R,
     folder: &str,
     parts: &Parts,
     name: &str,
     temporary: &Temporary<'_, R>,
 ) -> Result<(), Failure> {
-    let mut patience = Patience::new(rt);
+    let mut looks = Looks::new(rt);
     for _ in 0..u64::MAX {
         let since = parts.paths_since(rt, folder)?;
         match go_together(rt, folder, name, temporary.path(), since.as_slice()) {
             Ok(()) => return Ok(()),
-            Err(Unread::Gone) | Err(Unread::Folder) => {}
-            Err(Unread::Refused(failure)) => return Err(failure),
-        }
-        if !patience.wait(rt) {
-            break;
+            Err(why) => {
+                if !looks.again(rt, why)? {
+                    break;
+                }
+            }
         }
     }
     Err(busy(rt.alloc(), folder))

@@ -7,17 +7,23 @@ mod change;
 mod changing;
 mod checked_part;
 mod combined;
+mod commands;
 mod failure;
 mod folder_changes;
 mod folder_reports;
 mod folders;
 mod forgetting;
+mod front;
 mod heads;
+mod home;
+mod host;
 mod inputs;
 mod inspecting;
 mod judged_puts;
+mod loading;
+mod looks;
 mod merging;
-mod offer_tables;
+mod offers;
 mod output;
 mod packing;
 mod part_failures;
@@ -29,20 +35,21 @@ mod queries;
 mod query_partial_answers;
 mod replacing;
 mod reports;
+mod said;
 mod scripts;
 mod spreading;
+mod unwritten;
 mod watched;
 mod watched_folder;
 mod whole_lines;
 
 use command_line::{Format, Queries, Request};
 use failure::Failure;
+use host::Host;
 use progress::Progress;
-use std::fs::{File, Files};
 use std::io::{IsTerminal, Write};
 use std::process::ExitCode;
-use std::random::RandomSource;
-use std::rt::{Clock, Env};
+use std::rt::Env;
 
 /// Which of the standard streams a person reads or types.
 #[derive(Clone, Copy, Debug)]
@@ -66,19 +73,11 @@ fn main(rt: HostRuntime) -> ExitCode {
 }
 
 /// Does what the command line asks for, and answers the status. What else is said goes to the notes.
-fn run<
-    R: Print
-        + Eprint
-        + Input
-        + Env
-        + Files<File = File>
-        + Clock
-        + RandomSource
-        + AllocGlobal
-        + Clone
-        + Drop,
-    N: Write,
->(rt: &R, terminals: Terminals, notes: &mut N) -> Result<ExitCode, Failure> {
+fn run<R: Host + Env, N: Write>(
+    rt: &R,
+    terminals: Terminals,
+    notes: &mut N,
+) -> Result<ExitCode, Failure> {
     let words = command_line::arguments(rt)?;
     let request = command_line::read_request(rt.alloc(), words.as_slice())?;
     let is_told = terminals.errors && is_told(&request, terminals.output);
@@ -104,18 +103,7 @@ fn is_told(request: &Request<'_>, is_shown: bool) -> bool {
 }
 
 /// Does what a request asks for.
-fn answer<
-    R: Print
-        + Eprint
-        + Input
-        + Files<File = File>
-        + Clock
-        + RandomSource
-        + AllocGlobal
-        + Clone
-        + Drop,
-    N: Write,
->(
+fn answer<R: Host, N: Write>(
     rt: &R,
     request: Request<'_>,
     terminals: Terminals,
@@ -148,32 +136,32 @@ fn answer<
             table,
             columns,
             is_quiet,
-        } => changing::create(rt, progress, file, table, columns.as_slice(), is_quiet)?,
+        } => commands::create(rt, progress, file, table, columns.as_slice(), is_quiet)?,
         Request::Import {
             file,
             csvs,
             first,
             form,
             is_quiet,
-        } => changing::import(rt, progress, file, csvs.as_slice(), first, form, is_quiet)?,
+        } => commands::import(rt, progress, file, csvs.as_slice(), first, form, is_quiet)?,
         Request::Delete {
             file,
             condition,
             is_quiet,
-        } => changing::delete(rt, progress, file, condition, is_quiet)?,
+        } => commands::delete(rt, progress, file, condition, is_quiet)?,
         Request::DeleteRows {
             file,
             first,
             last,
             is_held,
             is_quiet,
-        } => changing::delete_rows(rt, progress, file, first, last, is_held, is_quiet)?,
+        } => commands::delete_rows(rt, progress, file, first, last, is_held, is_quiet)?,
         Request::Apply {
             file,
             offers,
             is_quiet,
-        } => changing::apply(rt, progress, file, offers.as_slice(), is_quiet)?,
-        Request::Forget { file, is_quiet } => changing::forget(rt, progress, file, is_quiet)?,
+        } => commands::apply(rt, progress, file, offers.as_slice(), is_quiet)?,
+        Request::Forget { file, is_quiet } => commands::forget(rt, progress, file, is_quiet)?,
         Request::Dump {
             file,
             has_names,
@@ -214,10 +202,7 @@ fn answer<
 }
 
 /// Answers queries, and ends with the status of a refusal if a line was refused and passed over.
-fn query<
-    R: Print + Eprint + Input + Files<File = File> + Clock + AllocGlobal + Clone + Drop,
-    N: Write,
->(
+fn query<R: Host, N: Write>(
     rt: &R,
     progress: &Progress<'_, R>,
     file: &str,

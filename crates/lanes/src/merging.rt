@@ -1,27 +1,28 @@
 //! The merge of files and of folders.
 
-use crate::change::Answer;
+use crate::change::{Answer, Done};
 use crate::checked_part::{CheckedPart, PartReason};
 use crate::failure::Failure;
-use crate::folders::{Parts, is_folder};
+use crate::folders::Parts;
 use crate::heads::{Headed, Heads};
+use crate::home::{Home, is_folder};
+use crate::host::Host;
 use crate::inputs::LazyFile;
+use crate::looks::Looks;
 use crate::output::{Output, is_special, write_in_place};
 use crate::part_failures::{Unread, path_at, refused as part_refused, unread_for};
 use crate::progress::{Progress, Told};
-use crate::putting::{make_folder, say};
-use crate::reports::write_line;
+use crate::putting::make_folder;
+use crate::said::say;
 use command_line::{Source, not_for_a_folder};
 use either::Either;
 use file_home::{Left, merged};
 use folder_home::PartFault;
-use part_folder::Patience;
 use refusal_sentences::CommandRefusal;
 use std::alloc::AllocError;
-use std::fs::{self, File, Files};
+use std::fs::{self, Files};
 use std::io::Read;
 use std::os::unix::fs::MetadataExt;
-use std::random::RandomSource;
 use std::rt::Clock;
 use table_model::{Counted, READ_CHUNK, Refusal};
 
@@ -33,75 +34,55 @@ const NO_FOLDER: &str =
 /// or what is written is no regular file, since that may be standard output itself. The files are judged in order. The one that is
 /// written is replaced whole, and if it is one of them its lock is taken at the beginning. For a folder among them its parts are
 /// read. A name that ends in `/` is that of a folder that is made, with what is written as its one part.
-pub fn merge<
-    R: Print + Eprint + Files<File = File> + Clock + RandomSource + AllocGlobal + Clone + Drop,
->(
+pub fn merge<R: Host>(
     rt: &R,
     progress: &Progress<'_, R>,
     out: &str,
     names: &[&str],
     is_quiet: bool,
 ) -> Result<(), Failure> {
-    if out.ends_with('/') {
-        return merge_into_folder(rt, progress, out, names, is_quiet);
-    }
-    if is_folder(rt, out) {
-        return Err(Failure::from(not_for_a_folder(rt.alloc(), NO_FOLDER)));
-    }
-    let is_special = is_special(rt, out);
-    let outcome = if is_special {
-        fill(rt, progress, out, names)
-    } else {
-        replace(rt, progress, out, names)
+    let home = Home::to_make(out);
+    let left = match home {
+        Home::Folder(out) => merge_into_folder(rt, progress, out, names)?,
+        Home::File(out) if is_folder(rt, out) => {
+            return Err(Failure::from(not_for_a_folder(rt.alloc(), NO_FOLDER)));
+        }
+        Home::File(out) if is_special(rt, out) => return fill(rt, progress, out, names),
+        Home::File(out) => replace(rt, progress, out, names)?,
     };
-    if is_special || is_quiet || outcome.is_err() {
-        return outcome;
-    }
-    write_line(rt, b"ok\n")
+    say(rt, home, &Done::new(Answer::Created, left), is_quiet)
 }
 
 /// Makes a folder whose one part is what all of some files hold.
-fn merge_into_folder<
-    R: Print + Eprint + Files<File = File> + Clock + RandomSource + AllocGlobal + Clone + Drop,
->(
+fn merge_into_folder<R: Host>(
     rt: &R,
     progress: &Progress<'_, R>,
     out: &str,
     names: &[&str],
-    is_quiet: bool,
-) -> Result<(), Failure> {
-    let mut sources = Vec::new(rt.alloc());
-    for name in names {
-        sources.push(*name)?;
-    }
-    let bytes = merged_files(rt, progress, names, sources.as_slice())?;
-    let replaced = make_folder(rt, out, bytes.as_slice())?;
-    say(rt, out, Answer::Created, Left::Changed(replaced), is_quiet)
+) -> Result<Left, Failure> {
+    let bytes = merged_files(rt, progress, names, names)?;
+    Ok(Left::Changed(make_folder(rt, out, bytes.as_slice())?))
 }
 
 /// Writes what all of some files hold to what is no regular file.
-fn fill<R: Eprint + Files<File = File> + Clock + AllocGlobal + Clone + Drop>(
+fn fill<R: Host>(
     rt: &R,
     progress: &Progress<'_, R>,
     out: &str,
     names: &[&str],
 ) -> Result<(), Failure> {
-    let mut sources = Vec::new(rt.alloc());
-    for name in names {
-        sources.push(*name)?;
-    }
-    let bytes = merged_files(rt, progress, names, sources.as_slice())?;
+    let bytes = merged_files(rt, progress, names, names)?;
     write_in_place(rt, out, bytes.as_slice())
 }
 
 /// Replaces a file by what all of some files hold. Those that are the file itself are read under the name that its lock is of, so that a
 /// link that is switched meanwhile changes nothing. If one of them is the file itself and nothing changed, the file is synced as it is.
-fn replace<R: Eprint + Files<File = File> + Clock + AllocGlobal + Clone + Drop>(
+fn replace<R: Host>(
     rt: &R,
     progress: &Progress<'_, R>,
     out: &str,
     names: &[&str],
-) -> Result<(), Failure> {
+) -> Result<Left, Failure> {
     let own = own_among(rt, out, names)?;
     let mut output = Output::new(rt, out)?;
     if own.contains(&true) {
@@ -111,10 +92,7 @@ fn replace<R: Eprint + Files<File = File> + Clock + AllocGlobal + Clone + Drop>(
         Ok(bytes)
             if own.contains(&true)
                 && output.is_held()
-                && has_bytes(rt, output.name(), bytes.as_slice()) => {
-            output.keep(rt, out);
-            Ok(())
-        }
+                && has_bytes(rt, output.name(), bytes.as_slice()) => { Ok(output.keep()) }
         Ok(bytes) => output.replace(rt, out, bytes.as_slice()),
         Err(failure) => {
             output.leave();
@@ -144,7 +122,7 @@ fn has_bytes<R: Files + AllocGlobal>(rt: &R, name: &str, bytes: &[u8]) -> bool {
 }
 
 /// The canonical file of what all of some files hold, of which those that are the file itself are read under its own name.
-fn merged_with_own<R: Eprint + Files<File = File> + Clock + AllocGlobal + Clone + Drop>(
+fn merged_with_own<R: Host>(
     rt: &R,
     progress: &Progress<'_, R>,
     names: &[&str],
@@ -181,16 +159,15 @@ fn is_same<R: Files>(rt: &R, one: &str, other: &str) -> bool {
 
 /// The canonical file of what all of some files and folders hold, which are read from these sources and called by these names in a
 /// sentence.
-fn merged_files<R: Eprint + Files<File = File> + Clock + AllocGlobal + Clone + Drop>(
+fn merged_files<R: Host>(
     rt: &R,
     progress: &Progress<'_, R>,
     names: &[&str],
     sources: &[&str],
 ) -> Result<Vec<u8>, Failure> {
-    let mut is_careful = false;
-    let mut patience = Patience::new(rt);
+    let mut looks = Looks::new(rt);
     for _ in 0..u64::MAX {
-        let (inputs, fault) = Inputs::of(rt, sources, is_careful)?;
+        let (inputs, fault) = Inputs::of(rt, sources, looks.is_careful())?;
         let outcome = if fault.is_some() && inputs.paths.as_slice().is_empty() {
             Ok(Vec::new(rt.alloc()))
         } else {
@@ -198,12 +175,11 @@ fn merged_files<R: Eprint + Files<File = File> + Clock + AllocGlobal + Clone + D
         };
         match outcome {
             Ok(bytes) => return told_last(bytes, fault),
-            Err(Unread::Gone) => {}
-            Err(Unread::Folder) => is_careful = true,
-            Err(Unread::Refused(failure)) => return Err(failure),
-        }
-        if !patience.wait(rt) {
-            break;
+            Err(why) => {
+                if !looks.again(rt, why)? {
+                    break;
+                }
+            }
         }
     }
     Err(Failure::of(rt.alloc(), CommandRefusal::Busy))
@@ -227,7 +203,7 @@ struct Inputs {
 
 impl Inputs {
     /// The files of these names, and for each folder among them its parts, up to a folder that can't be listed; and why that can't.
-    fn of<R: Files<File = File> + Clock + AllocGlobal + Clone + Drop>(
+    fn of<R: Host>(
         rt: &R,
         names: &[&str],
         is_careful: bool,
@@ -238,22 +214,30 @@ impl Inputs {
             has_folder: false,
         };
         for name in names {
-            if !is_folder(rt, *name) {
-                inputs.paths.push(String::from_str(rt.alloc(), *name)?)?;
-                inputs.are_parts.push(false)?;
-                continue;
-            }
-            inputs.has_folder = true;
-            match Parts::listed(rt, *name, is_careful) {
-                Ok(parts) => inputs.add_parts(parts.into_paths())?,
-                Err(failure) => return Ok((inputs, Some(failure))),
+            match Home::of(rt, *name) {
+                Home::File(file) => inputs.add_file(String::from_str(rt.alloc(), file)?)?,
+                Home::Folder(folder) => match Parts::listed(rt, folder, is_careful) {
+                    Ok(parts) => inputs.add_parts(parts.into_paths())?,
+                    Err(failure) => {
+                        inputs.has_folder = true;
+                        return Ok((inputs, Some(failure)));
+                    }
+                },
             }
         }
         Ok((inputs, None))
     }
 
+    /// Adds a file.
+    fn add_file(&mut self, path: String) -> Result<(), Failure> {
+        self.paths.push(path)?;
+        self.are_parts.push(false)?;
+        Ok(())
+    }
+
     /// Adds the parts of a folder.
     fn add_parts(&mut self, paths: Vec<String>) -> Result<(), Failure> {
+        self.has_folder = true;
         for path in paths {
             self.paths.push(path)?;
             self.are_parts.push(true)?;

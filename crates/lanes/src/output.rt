@@ -1,10 +1,10 @@
 //! The file that a merge writes.
 
-use crate::changing::{not_written, say_kept_unsynced, say_unsynced, unlocked};
 use crate::failure::Failure;
+use crate::unwritten::{not_written, unlocked};
 use crate::watched_folder::{Unheld, WatchedFolder};
-use file_home::{leave, put};
-use file_replacing::{Place, Replaced, SystemFolder, Unwatched, keep};
+use file_home::{Left, leave, put};
+use file_replacing::{Place, SystemFolder, Unwatched, keep};
 use std::alloc::AllocError;
 use std::fs::{self, File, Files};
 use std::io::{self, Write};
@@ -18,7 +18,7 @@ pub struct Output<'r, R: Files<File = File>> {
     held: Option<Result<(), Unheld>>,
 }
 
-impl<'r, R: Eprint + Files<File = File> + Clock + AllocGlobal> Output<'r, R> {
+impl<'r, R: Files<File = File> + Clock + AllocGlobal> Output<'r, R> {
     /// The file of this name, whose symbolic links are followed. Its lock was not tried yet.
     pub fn new(rt: &'r R, name: &str) -> Result<Output<'r, R>, AllocError> {
         Ok(Output {
@@ -55,20 +55,21 @@ impl<'r, R: Eprint + Files<File = File> + Clock + AllocGlobal> Output<'r, R> {
         }
     }
 
-    /// Has the file on the disk as it is, and gives the lock back, which this process has. `file` is what it is called in a sentence.
-    pub fn keep(self, rt: &R, file: &str) {
+    /// Has the file on the disk as it is, and gives the lock back, which this process has.
+    pub fn keep(self) -> Left {
         let Output {
             mut folder,
             place,
             held: _held,
         } = self;
-        if keep(&mut folder, &place).is_err() {
-            say_kept_unsynced(rt, file);
+        match keep(&mut folder, &place) {
+            Ok(_) => Left::Kept,
+            Err(_) => Left::KeptUnsynced,
         }
     }
 
     /// Puts these bytes in the file's place. `file` is what it is called in a sentence.
-    pub fn replace(self, rt: &R, file: &str, bytes: &[u8]) -> Result<(), Failure> {
+    pub fn replace(self, rt: &R, file: &str, bytes: &[u8]) -> Result<Left, Failure> {
         let Output {
             mut folder,
             place,
@@ -82,11 +83,7 @@ impl<'r, R: Eprint + Files<File = File> + Clock + AllocGlobal> Output<'r, R> {
             return Err(unlocked(rt, file, &place, why));
         }
         match put(&mut folder, &place, bytes) {
-            Ok(Replaced::Synced) => Ok(()),
-            Ok(Replaced::Unsynced) => {
-                say_unsynced(rt, file);
-                Ok(())
-            }
+            Ok(replaced) => Ok(Left::Changed(replaced)),
             Err(_) => Err(not_written(rt, file, folder.reason())),
         }
     }

@@ -1,9 +1,9 @@
 //! Packing a folder: small parts are joined into one, which is put in their place.
 
 use crate::failure::Failure;
-use crate::folder_changes::in_memory;
 use crate::folders::{Parts, parts_of};
 use crate::heads::Heads;
+use crate::host::Host;
 use crate::part_failures::{Unread, busy, of_folder, why_unread};
 use crate::parts::Untold;
 use crate::replacing::{Round, replace};
@@ -11,17 +11,13 @@ use crate::reports::write_line;
 use folder_home::{PartFault, PartRefusal, packed_prefix};
 use part_folder::{Patience, is_link, sweep};
 use refusal_sentences::CommandRefusal;
-use std::fs::{self, File, Files};
+use std::fs::{self, Files};
 use std::io::ErrorKind;
-use std::random::RandomSource;
-use std::rt::Clock;
 use table_model::{Counted, Refusal};
 
 /// Joins the small parts of a folder into one, until each part has more than a seventh of the bytes of those before it, or once all
 /// parts; and says how many parts there are then, and how many were joined and removed.
-pub fn pack<
-    R: Print + Eprint + Files<File = File> + Clock + RandomSource + AllocGlobal + Clone + Drop,
->(rt: &R, folder: &str, is_all: bool, is_quiet: bool) -> Result<(), Failure> {
+pub fn pack<R: Host>(rt: &R, folder: &str, is_all: bool, is_quiet: bool) -> Result<(), Failure> {
     if is_file(rt, folder) {
         let refusal = CommandRefusal::from(Refusal::ReadFault);
         let words = "this is a file: lanes pack takes a folder";
@@ -41,11 +37,7 @@ pub fn pack<
 
 /// Joins parts as long as there are some to be joined, or once all; how many were joined and removed. If another pack or a forget was
 /// there, the parts are listed and chosen anew, until ten seconds are over.
-fn pack_rounds<R: Files<File = File> + Clock + RandomSource + AllocGlobal + Clone + Drop>(
-    rt: &R,
-    folder: &str,
-    is_all: bool,
-) -> Result<usize, Failure> {
+fn pack_rounds<R: Host>(rt: &R, folder: &str, is_all: bool) -> Result<usize, Failure> {
     let mut packed = 0usize;
     let mut patience = Patience::new(rt);
     for _ in 0..u64::MAX {
@@ -80,11 +72,7 @@ fn is_file<R: Files>(rt: &R, name: &str) -> bool {
 }
 
 /// The paths of the parts that are joined next, the smallest first.
-fn chosen_parts<R: Files<File = File> + Clock + AllocGlobal + Clone + Drop>(
-    rt: &R,
-    folder: &str,
-    is_all: bool,
-) -> Result<Vec<String>, Failure> {
+fn chosen_parts<R: Host>(rt: &R, folder: &str, is_all: bool) -> Result<Vec<String>, Failure> {
     let sized = sized_parts(rt, folder)?;
     let mut sizes = Vec::with_capacity(rt.alloc(), sized.len())?;
     for (size, _) in sized.as_slice() {
@@ -103,10 +91,7 @@ fn chosen_parts<R: Files<File = File> + Clock + AllocGlobal + Clone + Drop>(
 }
 
 /// The parts of a folder with their sizes, in ascending order of size and then of name.
-fn sized_parts<R: Files<File = File> + Clock + AllocGlobal + Clone + Drop>(
-    rt: &R,
-    folder: &str,
-) -> Result<Vec<(u64, String)>, Failure> {
+fn sized_parts<R: Host>(rt: &R, folder: &str) -> Result<Vec<(u64, String)>, Failure> {
     let parts = Parts::listed(rt, folder, false)?;
     let mut sized = Vec::with_capacity(rt.alloc(), parts.count())?;
     for path in parts.into_paths() {
@@ -126,11 +111,7 @@ fn sized_parts<R: Files<File = File> + Clock + AllocGlobal + Clone + Drop>(
 }
 
 /// Joins the parts of these paths into one, and removes them.
-fn pack_once<R: Files<File = File> + Clock + RandomSource + AllocGlobal + Clone + Drop>(
-    rt: &R,
-    folder: &str,
-    paths: &[String],
-) -> Result<Round, Failure> {
+fn pack_once<R: Host>(rt: &R, folder: &str, paths: &[String]) -> Result<Round, Failure> {
     match joined(rt, paths) {
         Ok(bytes) => replace(rt, folder, paths, bytes.as_slice()),
         Err(Unread::Gone) | Err(Unread::Folder) => Ok(Round::Overtaken),
@@ -155,7 +136,7 @@ fn joined<R: Files + AllocGlobal>(rt: &R, paths: &[String]) -> Result<Vec<u8>, U
                 ..
             },
         ) => {
-            let refusal = in_memory(Refusal::WriteFault);
+            let refusal = CommandRefusal::from(Refusal::Memory);
             Err(Unread::Refused(Failure::of(rt.alloc(), refusal)))
         }
         Err(refusal) => Err(why_unread(rt, paths, readers, refusal, &heads)),

@@ -1,5 +1,6 @@
 //! A reader whose first bytes are looked at before it is read.
 
+use crate::front::read_front;
 use refusal_sentences::KIND_BYTES;
 use std::io::{self, Read};
 
@@ -16,35 +17,15 @@ pub struct Peeked<D> {
 impl<D: Read + Drop> Peeked<D> {
     /// A reader, from which nothing was read yet. If it fails, that comes again when it is read.
     pub fn new(inner: D) -> Peeked<D> {
-        let mut peeked = Peeked {
+        let mut inner = inner;
+        let mut front = [0; KIND_BYTES];
+        let came = read_front(&mut inner, &mut front);
+        Peeked {
             inner,
-            front: [0; KIND_BYTES],
-            length: 0,
+            front,
+            length: came.length.min(KIND_BYTES),
             given: 0,
-            fault: None,
-        };
-        for _ in 0..KIND_BYTES {
-            if !peeked.look() {
-                break;
-            }
-        }
-        peeked
-    }
-
-    /// Looks at more of the first bytes. Answers whether some came.
-    fn look(&mut self) -> bool {
-        let Some(room) = self.front.get_mut(self.length..) else {
-            return false;
-        };
-        match self.inner.read(room) {
-            Ok(count) => {
-                self.length = self.length.saturating_add(count).min(KIND_BYTES);
-                count > 0
-            }
-            Err(error) => {
-                self.fault = Some(error);
-                false
-            }
+            fault: came.fault,
         }
     }
 

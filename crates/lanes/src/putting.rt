@@ -1,31 +1,25 @@
 //! Putting a part into a folder, and making a folder of one.
 
-use crate::change::{Answer, Done};
 use crate::failure::Failure;
 use crate::folders::Parts;
+use crate::host::Host;
 use crate::part_failures::of_folder;
-use crate::reports::write_line;
 use file_home::Left;
 use file_replacing::Replaced;
 use folder_home::part_name;
 use folder_protocol::{self, Outcome, keep, put};
 use part_folder::{MakeFault, Placed, SystemFolder, Temporary, make, path_in, temporary_name};
-use refusal_sentences::{CommandRefusal, Printable};
+use refusal_sentences::CommandRefusal;
 use std::fs::{File, Files};
 use std::io::ErrorKind;
 use std::random::RandomSource;
-use std::rt::Clock;
 use table_model::Refusal;
 
 /// How often a part is put, if the one that was there before is gone when it is compared.
 const TRIES: u32 = 100;
 
 /// Puts these bytes into a folder as a part, unless the folder has it already. Answers how the folder was synced.
-pub fn put_part<R: Files<File = File> + Clock + RandomSource + AllocGlobal + Clone + Drop>(
-    rt: &R,
-    folder: &str,
-    bytes: &[u8],
-) -> Result<Replaced, Failure> {
+pub fn put_part<R: Host>(rt: &R, folder: &str, bytes: &[u8]) -> Result<Replaced, Failure> {
     let name = part_name(rt.alloc(), bytes)?;
     let mut system = opened(rt, folder)?;
     for _ in 0..TRIES {
@@ -123,7 +117,7 @@ pub fn written<'r, R: Files<File = File> + RandomSource + AllocGlobal>(
 }
 
 /// Gives a temporary, which has these bytes, the name of the part that it is. None if a part that had the name before is gone since.
-pub fn place<R: Files<File = File> + Clock + RandomSource + AllocGlobal + Clone + Drop>(
+pub fn place<R: Host>(
     rt: &R,
     folder: &str,
     temporary: Temporary<'_, R>,
@@ -140,7 +134,7 @@ pub fn place<R: Files<File = File> + Clock + RandomSource + AllocGlobal + Clone 
 }
 
 /// Has a part on the disk that is there already with these bytes. None if it is gone.
-pub fn keep_part<R: Files<File = File> + Clock + AllocGlobal + Clone + Drop>(
+pub fn keep_part<R: Host>(
     rt: &R,
     folder: &str,
     name: &str,
@@ -154,11 +148,7 @@ pub fn keep_part<R: Files<File = File> + Clock + AllocGlobal + Clone + Drop>(
 }
 
 /// Has the parts of a folder on the disk that a command has read, which adds none since all that it brings is there.
-pub fn keep_all<R: Files<File = File> + Clock + AllocGlobal + Clone + Drop>(
-    rt: &R,
-    folder: &str,
-    parts: &Parts,
-) -> Left {
+pub fn keep_all<R: Host>(rt: &R, folder: &str, parts: &Parts) -> Left {
     let kept = match SystemFolder::open(rt, folder) {
         Ok(mut system) => folder_protocol::keep_all(rt.alloc(), &mut system, parts.names()),
         Err(error) => Err(error),
@@ -169,17 +159,22 @@ pub fn keep_all<R: Files<File = File> + Clock + AllocGlobal + Clone + Drop>(
     }
 }
 
+/// Why a part is not made for a folder. A failed write to memory is `Memory`.
+pub fn unmade<R: Files + AllocGlobal>(rt: &R, folder: &str, refusal: Refusal) -> Failure {
+    let refusal = match refusal {
+        Refusal::WriteFault => Refusal::Memory,
+        other => other,
+    };
+    Failure::of_change(rt, CommandRefusal::from(refusal), folder)
+}
+
 /// A folder that is not written, for this reason.
 pub fn unwritten<R: AllocGlobal>(rt: &R, folder: &str, kind: ErrorKind) -> Failure {
     Failure::of_reason(rt.alloc(), Refusal::WriteFault, folder, kind)
 }
 
 /// Makes a folder that has these bytes as its one part. Answers how the folder that it is in was synced.
-pub fn make_folder<R: Files<File = File> + RandomSource + AllocGlobal + Clone + Drop>(
-    rt: &R,
-    folder: &str,
-    bytes: &[u8],
-) -> Result<Replaced, Failure> {
+pub fn make_folder<R: Host>(rt: &R, folder: &str, bytes: &[u8]) -> Result<Replaced, Failure> {
     let name = part_name(rt.alloc(), bytes)?;
     match make(rt, folder, name.as_str(), bytes) {
         Ok(true) => Ok(Replaced::Synced),
@@ -187,43 +182,4 @@ pub fn make_folder<R: Files<File = File> + RandomSource + AllocGlobal + Clone + 
         Err(MakeFault::Exists) => Err(Failure::of_file(rt, CommandRefusal::Exists, folder)),
         Err(MakeFault::System(kind)) => Err(unwritten(rt, folder, kind)),
     }
-}
-
-/// Says what came of a change of a folder, unless that is to be quiet. If that can't be written the folder is changed all the same.
-pub fn say<R: Print + Eprint + Files + AllocGlobal>(
-    rt: &R,
-    folder: &str,
-    answer: Answer,
-    left: Left,
-    is_quiet: bool,
-) -> Result<(), Failure> {
-    let done = Done::new(answer, left);
-    let line = format!(in rt.alloc(); "{done}\n")?;
-    let told = if is_quiet {
-        Ok(())
-    } else {
-        write_line(rt, line.as_bytes())
-    };
-    match left {
-        Left::Changed(Replaced::Unsynced) => say_unsynced(rt, folder),
-        Left::KeptUnsynced => say_kept_unsynced(rt, folder),
-        Left::Changed(Replaced::Synced) | Left::Kept => {}
-    }
-    told
-}
-
-/// Says on standard error that a part was added, and its folder could not be synced.
-pub fn say_unsynced<R: Eprint>(rt: &R, folder: &str) {
-    let name = Printable(folder);
-    let _ = eprintln!(rt;
-        "{name}: the part was added, but the folder could not be synced: a loss of power may take it away"
-    );
-}
-
-/// Says on standard error that nothing was added to a folder, and it or its parts could not be synced.
-fn say_kept_unsynced<R: Eprint>(rt: &R, folder: &str) {
-    let name = Printable(folder);
-    let _ = eprintln!(rt;
-        "{name}: nothing was added, but the parts or the folder could not be synced: a loss of power may take parts away"
-    );
 }

@@ -1,6 +1,7 @@
 //! Queries over a file: those of the command line, and those of lines of standard input.
 
 use crate::failure::{Failure, INPUT};
+use crate::host::Host;
 use crate::inputs::opened;
 use crate::progress::Progress;
 use crate::watched::{Cause, Watched};
@@ -9,9 +10,7 @@ use refusal_sentences::{CommandRefusal, Knowledge, Sentence, Text};
 use replica_reading::{Listener, answer_all, answer_lines};
 use std::alloc::Global;
 use std::fmt;
-use std::fs::{File, Files};
 use std::io::{self, Write};
-use std::rt::Clock;
 use std::str::{self, Utf8Error};
 use table_model::{Counted, Refusal, Schema};
 
@@ -19,7 +18,7 @@ use table_model::{Counted, Refusal, Schema};
 const PROMPT: &str = "lanes> ";
 
 /// Writes the answers of queries over a file, one after another, up to the first that is refused.
-pub fn answer_texts<R: Print + Eprint + Files<File = File> + Clock + AllocGlobal + Clone + Drop>(
+pub fn answer_texts<R: Host>(
     rt: &R,
     progress: &Progress<'_, R>,
     file: &str,
@@ -76,10 +75,7 @@ impl fmt::Display for Place {
 
 /// Answers the queries that are lines of standard input, each as soon as it is read, and says whether all were answered. One that is
 /// refused is reported, and passed over; empty lines are passed over too.
-pub fn answer_typed<
-    R: Print + Eprint + Input + Files<File = File> + Clock + AllocGlobal + Clone + Drop,
-    N: Write,
->(
+pub fn answer_typed<R: Host, N: Write>(
     rt: &R,
     progress: &Progress<'_, R>,
     file: &str,

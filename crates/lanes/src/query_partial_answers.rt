@@ -3,6 +3,7 @@
 
 use crate::combined::Combined;
 use crate::failure::Failure;
+use crate::host::Host;
 use crate::inputs::{name_of, opened_from, source_of, unread, unread_by};
 use crate::progress::Progress;
 use crate::reports::{buffered, flushed, told};
@@ -17,19 +18,14 @@ use partial_commands::{
 use partial_file::{read_partial_answer, write_partial_answer};
 use refusal_sentences::{CommandRefusal, Sentence, Text};
 use replica_store::Summary;
-use std::fs::{File, Files};
 use std::io;
-use std::rt::Clock;
 use table_model::{BatchName, Counted, Refusal, Schema};
 
 /// What is said of a partial answer whose text is not a query.
 const NO_QUERY: &str = "this was not written by lanes partial: its text is not a query";
 
 /// Writes what a file or a folder gives to the answer of a query, as a partial answer. The file is judged before the query is read.
-pub fn partial<
-    'r,
-    R: Print + Eprint + Input + Files<File = File> + Clock + AllocGlobal + Clone + Drop,
->(
+pub fn partial<'r, R: Host>(
     rt: &'r R,
     progress: &'r Progress<'r, R>,
     source: Source<'_>,
@@ -65,7 +61,7 @@ fn not_asked<'a, R: AllocGlobal>(
 }
 
 /// Writes the partial answer of all files that some partial answers are of, of which there is at least one.
-pub fn combine<'r, R: Print + Eprint + Input + Files + Clock + AllocGlobal>(
+pub fn combine<'r, R: Host>(
     rt: &'r R,
     progress: &'r Progress<'r, R>,
     sources: &[Source<'_>],
@@ -81,7 +77,7 @@ pub fn combine<'r, R: Print + Eprint + Input + Files + Clock + AllocGlobal>(
 }
 
 /// Some partial answers, read and combined in their order. None if there are none.
-fn combined<'r, R: Eprint + Input + Files + Clock + AllocGlobal>(
+fn combined<'r, R: Host>(
     rt: &'r R,
     progress: &'r Progress<'r, R>,
     sources: &[Source<'_>],
@@ -111,7 +107,7 @@ fn combined<'r, R: Eprint + Input + Files + Clock + AllocGlobal>(
 }
 
 /// Writes the answer of the query that a partial answer is of, if it covers what these summaries expect.
-pub fn finish<'r, R: Print + Eprint + Input + Files + Clock + AllocGlobal>(
+pub fn finish<'r, R: Host>(
     rt: &'r R,
     progress: &'r Progress<'r, R>,
     source: Source<'_>,
@@ -126,7 +122,7 @@ pub fn finish<'r, R: Print + Eprint + Input + Files + Clock + AllocGlobal>(
 }
 
 /// Writes the answer of the query that a partial answer is of, whatever it covers.
-fn finish_any<'r, R: Print + Eprint + Input + Files + Clock + AllocGlobal>(
+fn finish_any<'r, R: Host>(
     rt: &'r R,
     progress: &'r Progress<'r, R>,
     source: Source<'_>,
@@ -147,7 +143,7 @@ fn finish_any<'r, R: Print + Eprint + Input + Files + Clock + AllocGlobal>(
 }
 
 /// Writes the answer of the query that a partial answer is of, if each batch that one of these summaries names was counted.
-fn finish_expected<'r, R: Print + Eprint + Input + Files + Clock + AllocGlobal>(
+fn finish_expected<'r, R: Host>(
     rt: &'r R,
     progress: &'r Progress<'r, R>,
     source: Source<'_>,
@@ -182,7 +178,7 @@ fn finish_expected<'r, R: Print + Eprint + Input + Files + Clock + AllocGlobal>(
 }
 
 /// The summaries of these sources, one after another.
-fn read_summaries<'r, R: Eprint + Input + Files + Clock + AllocGlobal>(
+fn read_summaries<'r, R: Host>(
     rt: &'r R,
     progress: &'r Progress<'r, R>,
     sources: &[Source<'_>],

@@ -2,16 +2,15 @@
 
 use crate::failure::Failure;
 use crate::folders::last_of;
+use crate::host::Host;
 use crate::putting::{kept, new_temporary, opened, unkept};
 use file_replacing::Replaced;
 use folder_home::{is_removed, part_name};
 use folder_protocol::{self, Outcome};
 use refusal_sentences::CommandRefusal;
 use std::alloc::AllocError;
-use std::fs::{File, Files};
+use std::fs::Files;
 use std::io::ErrorKind;
-use std::random::RandomSource;
-use std::rt::Clock;
 use table_model::Refusal;
 
 /// What is said of a part that is not known to be on the disk.
@@ -33,7 +32,7 @@ pub enum Round {
 ///
 /// If one of them is gone, nothing is put or removed. What another pack or a forget has put has taken its place, and a forget may have
 /// dropped what this part would bring back. If the new part could not be synced, nothing is removed, and `WriteFault` is the refusal.
-pub fn replace<R: Files<File = File> + Clock + RandomSource + AllocGlobal + Clone + Drop>(
+pub fn replace<R: Host>(
     rt: &R,
     folder: &str,
     paths: &[String],

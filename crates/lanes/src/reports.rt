@@ -2,17 +2,16 @@
 
 use crate::failure::Failure;
 use crate::folder_reports;
-use crate::folders::is_folder;
-use crate::inputs::{name_of, opened, source_of, unread_by};
+use crate::home::Home;
+use crate::host::Host;
+use crate::inputs::{name_of, opened, opened_file, source_of, unread_by};
 use crate::progress::Progress;
 use crate::watched::{Cause, Watched};
 use command_line::{Source, not_for_a_terminal};
 use live_columns::{Unchosen, choose};
-use refusal_sentences::{CommandRefusal, Text, is_of_a_text};
+use refusal_sentences::{CommandRefusal, is_of_a_text};
 use replica_reading::{OpenFile, dump_where};
-use std::fs::{File, Files};
 use std::io::{self, BufWriter, Printer, Write};
-use std::rt::Clock;
 use table_model::{Counted, Refusal};
 
 /// Standard output, with a buffer.
@@ -26,15 +25,16 @@ pub fn buffered<R: Print + AllocGlobal>(
 }
 
 /// Says whether a file is a canonical one, and how much is in it.
-pub fn check<R: Print + Eprint + Files<File = File> + Clock + AllocGlobal + Clone + Drop>(
-    rt: &R,
-    progress: &Progress<'_, R>,
-    file: &str,
-) -> Result<(), Failure> {
-    if is_folder(rt, file) {
-        return folder_reports::check(rt, progress, file);
+pub fn check<R: Host>(rt: &R, progress: &Progress<'_, R>, file: &str) -> Result<(), Failure> {
+    match Home::of(rt, file) {
+        Home::File(file) => check_file(rt, progress, file),
+        Home::Folder(folder) => folder_reports::check(rt, progress, folder),
     }
-    let held = opened(rt, progress, file)?;
+}
+
+/// The same of a file.
+fn check_file<R: Host>(rt: &R, progress: &Progress<'_, R>, file: &str) -> Result<(), Failure> {
+    let held = opened_file(rt, progress, file)?;
     let mut writer = Counted::new(Watched::new(io::writer(rt)));
     let outcome = replica_reading::check(rt.alloc(), &held, &mut writer);
     told(rt, writer.into_inner().ended(outcome))
@@ -42,7 +42,7 @@ pub fn check<R: Print + Eprint + Files<File = File> + Clock + AllocGlobal + Clon
 
 /// Writes a file's live rows as comma-separated values, with their names or without: those for which a condition is true, in the
 /// columns of a list of names. An empty condition is true for all rows, and an empty list is all columns.
-pub fn dump<R: Print + Eprint + Files<File = File> + Clock + AllocGlobal + Clone + Drop>(
+pub fn dump<R: Host>(
     rt: &R,
     progress: &Progress<'_, R>,
     file: &str,
@@ -76,16 +76,17 @@ fn unchosen<R: AllocGlobal>(rt: &R, refusal: Refusal, condition: &str, held: &Op
     if !is_of_a_text(refusal) {
         return Failure::from(refusal);
     }
-    let text = Text {
-        text: condition,
-        is_condition: true,
-        schema: Some(held.schema()),
-    };
-    Failure::of_text(rt.alloc(), refusal, "--where", text)
+    Failure::of_condition(
+        rt.alloc(),
+        refusal,
+        "--where",
+        condition,
+        Some(held.schema()),
+    )
 }
 
 /// Writes the names of a file's batches, as a message.
-pub fn summary<R: Print + Eprint + Files<File = File> + Clock + AllocGlobal + Clone + Drop>(
+pub fn summary<R: Host>(
     rt: &R,
     progress: &Progress<'_, R>,
     file: &str,
@@ -101,7 +102,7 @@ pub fn summary<R: Print + Eprint + Files<File = File> + Clock + AllocGlobal + Cl
 }
 
 /// Writes what a file has beyond a summary, as a message. The file is judged before the summary is read.
-pub fn offer<R: Print + Eprint + Input + Files<File = File> + Clock + AllocGlobal + Clone + Drop>(
+pub fn offer<R: Host>(
     rt: &R,
     progress: &Progress<'_, R>,
     file: &str,

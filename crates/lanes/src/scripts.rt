@@ -1,15 +1,14 @@
 //! Scripts.
 
 use crate::failure::Failure;
+use crate::host::Host;
 use crate::inputs::{source_of, unread};
 use crate::progress::Progress;
 use crate::watched::Watched;
 use command_line::Source;
 use lanes_main::{script, script_with_notes};
 use refusal_sentences::CommandRefusal;
-use std::fs::Files;
 use std::io::{self, Write};
-use std::rt::Clock;
 use table_model::{Counted, Refusal};
 
 /// What a person at a terminal reads.
@@ -18,7 +17,7 @@ const WAITING: &str =
 
 /// Runs a script to its end, and writes its replies to standard output, and if that is asked for its notes. If a person would
 /// have to type it, the notes say that lines are waited for.
-pub fn run<R: Print + Eprint + Input + Files + Clock + AllocGlobal, N: Write>(
+pub fn run<R: Host, N: Write>(
     rt: &R,
     progress: &Progress<'_, R>,
     source: Source<'_>,

@@ -1,21 +1,23 @@
 //! The spread of a table over new files and folders.
 
-use crate::changing::{is_there, not_written, say_unsynced, unlocked};
 use crate::failure::Failure;
+use crate::home::{Home, is_there};
+use crate::host::Host;
 use crate::inputs::opened;
 use crate::progress::Progress;
-use crate::putting::{make_folder, say_unsynced as say_folder_unsynced};
+use crate::putting::make_folder;
 use crate::reports::write_line;
+use crate::said::say_left;
+use crate::unwritten::{not_written, unlocked};
 use crate::watched_folder::WatchedFolder;
-use file_home::put;
-use file_replacing::{Folder, Place, Replaced, SystemFolder};
+use file_home::{Left, put};
+use file_replacing::{Folder, Place, SystemFolder};
 use folder_home::part_name;
 use part_folder::path_in;
 use refusal_sentences::CommandRefusal;
 use replica_store::Store;
 use std::alloc::AllocError;
 use std::fs::{self, File, Files};
-use std::random::RandomSource;
 use std::rt::Clock;
 use table_model::{Counted, Refusal};
 use table_spread::NameRuns;
@@ -26,9 +28,7 @@ const NAMED_TWICE: &str = "this OUT is named twice";
 /// Makes new files, and folders of one part if a name ends in `/`, each with a share of what a file or a folder holds, and then says
 /// how many there are and how many batches they have. The file is judged first, and that no output is there. If one can't be made, those
 /// that were made before are removed.
-pub fn spread<
-    R: Print + Eprint + Files<File = File> + Clock + RandomSource + AllocGlobal + Clone + Drop,
->(
+pub fn spread<R: Host>(
     rt: &R,
     progress: &Progress<'_, R>,
     file: &str,
@@ -124,7 +124,7 @@ fn remove_all<R: Files>(rt: &R, made: &[Made]) {
 }
 
 /// Makes an output with the share of this index.
-fn make_share<R: Eprint + Files<File = File> + Clock + RandomSource + AllocGlobal + Clone + Drop>(
+fn make_share<R: Host>(
     rt: &R,
     runs: &NameRuns,
     store: &Store,
@@ -139,25 +139,19 @@ fn make_share<R: Eprint + Files<File = File> + Clock + RandomSource + AllocGloba
         return Err(Failure::from(Refusal::Memory));
     }
     let bytes = writer.into_inner();
-    if out.ends_with('/') {
-        make_part(rt, out, bytes.as_slice())
-    } else {
-        make_file(rt, out, bytes.as_slice())
+    match Home::to_make(out) {
+        Home::Folder(out) => make_part(rt, out, bytes.as_slice()),
+        Home::File(out) => make_file(rt, out, bytes.as_slice()),
     }
 }
 
 /// Makes a folder with these bytes as its one part.
-fn make_part<R: Eprint + Files<File = File> + RandomSource + AllocGlobal + Clone + Drop>(
-    rt: &R,
-    out: &str,
-    bytes: &[u8],
-) -> Result<Made, Failure> {
+fn make_part<R: Host>(rt: &R, out: &str, bytes: &[u8]) -> Result<Made, Failure> {
     let name = part_name(rt.alloc(), bytes)?;
     let folder = String::from_str(rt.alloc(), bare(out))?;
     let file = path_in(rt.alloc(), folder.as_str(), name.as_str())?;
-    if make_folder(rt, out, bytes)? == Replaced::Unsynced {
-        say_folder_unsynced(rt, out);
-    }
+    let replaced = make_folder(rt, out, bytes)?;
+    say_left(rt, Home::Folder(out), Left::Changed(replaced));
     Ok(Made {
         file,
         folder: Some(folder),
@@ -181,8 +175,7 @@ fn make_file<R: Eprint + Files<File = File> + Clock + AllocGlobal>(
         return Err(Failure::of_file(rt, CommandRefusal::Exists, out));
     }
     match put(&mut folder, &place, bytes) {
-        Ok(Replaced::Synced) => {}
-        Ok(Replaced::Unsynced) => say_unsynced(rt, out),
+        Ok(replaced) => say_left(rt, Home::File(out), Left::Changed(replaced)),
         Err(_) => return Err(not_written(rt, out, folder.reason())),
     }
     Ok(Made { file, folder: None })

@@ -1,0 +1,191 @@
+//! Loads of comma-separated values, and the names that they draw.
+
+use crate::failure::Failure;
+use crate::host::Host;
+use crate::inputs::{name_of, source_of, unread};
+use crate::progress::Progress;
+use crate::whole_lines::LineEnds;
+use command_line::{CsvForm, Source};
+use csv_rows::{CsvError, CsvReader, Dialect, Order, WordError};
+use refusal_sentences::{CommandRefusal, Fields, Knowledge, Sentence, Wanted};
+use replica_commands::{Load, read_csv};
+use std::alloc::Global;
+use std::fs::Files;
+use std::io::Read;
+use std::random::RandomSource;
+use table_model::{Counted, Refusal, Schema};
+
+/// What is said of a last line without its end.
+const NO_END: &str = "the last line has no line end: did the command before it fail?";
+
+/// What is said if no name can be drawn.
+const NO_RANDOM: &str =
+    "the system gives no random bytes to draw a batch's name with: give it, by --batch O.N";
+
+/// How many random words an import may draw a name with.
+pub const DRAWS: usize = 16;
+
+/// The rows of comma-separated values, of one text after another, coded in batches of a table.
+pub fn load_of<'r, R: Host>(
+    rt: &'r R,
+    progress: &'r Progress<'r, R>,
+    csvs: &[Source<'_>],
+    schema: &Schema,
+    form: CsvForm<'_>,
+) -> Result<Load, Failure> {
+    let mut load = Load::new(rt.alloc(), schema)?;
+    for csv in csvs {
+        let mut reader = source_of(rt, progress, *csv);
+        if form.is_whole {
+            let mut reader = Counted::new(LineEnds::new(reader.into_inner()));
+            add_rows(rt, *csv, &mut reader, schema, form, &mut load)?;
+            check_end(rt.alloc(), *csv, &reader.into_inner())?;
+        } else {
+            add_rows(rt, *csv, &mut reader, schema, form, &mut load)?;
+        }
+    }
+    Ok(load)
+}
+
+/// Refuses a text that was read whole if its last line has no end.
+fn check_end<D>(alloc: Global, source: Source<'_>, text: &LineEnds<D>) -> Result<(), Failure> {
+    match text.open_line() {
+        None => Ok(()),
+        Some(line) => {
+            let refusal = CommandRefusal::BadCsv { line, column: 0 };
+            Err(fault_of_csv(alloc, source, refusal, Knowledge::Advice(NO_END)))
+        }
+    }
+}
+
+/// Random words, to draw names with.
+pub fn random_words<R: RandomSource + AllocGlobal>(rt: &R) -> Result<[u64; DRAWS], Failure> {
+    let mut words = [0u64; DRAWS];
+    for word in words.iter_mut() {
+        let mut bytes = [0u8; 8];
+        if rt.fill_bytes(&mut bytes).is_err() {
+            let refusal = CommandRefusal::from(Refusal::ReadFault);
+            return Err(Failure::advised(rt.alloc(), refusal, "", NO_RANDOM));
+        }
+        *word = u64::from_le_bytes(bytes);
+    }
+    Ok(words)
+}
+
+/// Adds the rows of comma-separated values to a load, coded in batches.
+fn add_rows<R: Files + AllocGlobal, D: Read>(
+    rt: &R,
+    source: Source<'_>,
+    reader: &mut Counted<D>,
+    schema: &Schema,
+    form: CsvForm<'_>,
+    load: &mut Load,
+) -> Result<(), Failure> {
+    let mut csv = CsvReader::in_dialect(
+        rt.alloc(),
+        schema,
+        form.has_header,
+        dialect_of(rt.alloc(), schema, form)?,
+    )?;
+    match read_csv(rt.alloc(), &mut csv, reader, load) {
+        Ok(()) => Ok(()),
+        Err(CsvError::Refused(refusal)) => {
+            Err(unread(rt, CommandRefusal::from(refusal), source, &[]))
+        }
+        Err(CsvError::LineTooLong { line }) => Err(fault_of_csv(
+            rt.alloc(),
+            source,
+            CommandRefusal::from(Refusal::LineTooLong),
+            Knowledge::Line(line),
+        )),
+        Err(CsvError::BadCsv { line, column }) => Err(fault_of_csv(
+            rt.alloc(),
+            source,
+            CommandRefusal::BadCsv { line, column },
+            known_of_field(&csv, schema, form, line == 1, column),
+        )),
+    }
+}
+
+/// The dialect in which texts are written.
+fn dialect_of(alloc: Global, schema: &Schema, form: CsvForm<'_>) -> Result<Dialect, Failure> {
+    let null_word = match form.null_word {
+        None => None,
+        Some(word) => Some(String::from_str(alloc, word)?),
+    };
+    let dialect = Dialect::new(form.separator, null_word);
+    let Some(words) = form.columns else {
+        return Ok(dialect);
+    };
+    match Order::of_words(alloc, schema.column_list(), words.as_bytes()) {
+        Ok(order) => Ok(dialect.with_order(order)),
+        Err(WordError::NoNewColumn(word)) => Err(no_column(alloc, schema, words, word)),
+        Err(WordError::Memory) => Err(Failure::from(Refusal::Memory)),
+    }
+}
+
+/// The refusal of a word that names no column, by its place in a list, from 1.
+fn no_column(alloc: Global, schema: &Schema, words: &str, place: u64) -> Failure {
+    let before = words.split(',').take(place.saturating_sub(1) as usize);
+    let at = before.fold(
+        0u64,
+        |at, word| at.saturating_add(word.len() as u64).saturating_add(1),
+    );
+    Failure::of_name(alloc, "--columns", words, at, schema)
+}
+
+/// How many fields a line should have.
+fn wanted_fields<'a>(schema: &'a Schema, form: CsvForm<'a>) -> Wanted<'a> {
+    match form.columns {
+        None => Wanted::Columns(schema),
+        Some(words) => Wanted::Words(words),
+    }
+}
+
+/// A fault of comma-separated values.
+fn fault_of_csv(
+    alloc: Global,
+    source: Source<'_>,
+    refusal: CommandRefusal,
+    knowledge: Knowledge<'_>,
+) -> Failure {
+    let subject = name_of(source);
+    Failure::new(
+        alloc,
+        Sentence {
+            refusal,
+            subject,
+            knowledge,
+        },
+    )
+}
+
+/// What is known of a field that is refused, or of a line with the wrong number of them. A field of the header has no column.
+fn known_of_field<'a>(
+    csv: &'a CsvReader,
+    schema: &'a Schema,
+    form: CsvForm<'a>,
+    is_first: bool,
+    column: u64,
+) -> Knowledge<'a> {
+    if column == 0 {
+        return Knowledge::Fields(Fields::new(
+            csv.line(),
+            form.separator,
+            wanted_fields(schema, form),
+            form.has_header && is_first,
+        ));
+    }
+    let text = csv.faulty_field(column);
+    match csv.column_of(column) {
+        Some(index) if index < schema.columns() => {
+            let found = schema.column(index);
+            Knowledge::Field {
+                column: found.name(),
+                column_type: found.column_type(),
+                text,
+            }
+        }
+        _ => Knowledge::Heading { text, schema },
+    }
+}

@@ -1,0 +1,61 @@
+//! What a command says of what it changed.
+
+use crate::change::Done;
+use crate::failure::Failure;
+use crate::home::Home;
+use crate::reports::write_line;
+use file_home::Left;
+use file_replacing::Replaced;
+use refusal_sentences::Printable;
+
+/// Says what came of a change, unless that is to be quiet. If that can't be written, the change is made all the same.
+pub fn say<R: Print + Eprint + AllocGlobal>(
+    rt: &R,
+    home: Home<'_>,
+    done: &Done,
+    is_quiet: bool,
+) -> Result<(), Failure> {
+    let line = format!(in rt.alloc(); "{done}\n")?;
+    let told = if is_quiet {
+        Ok(())
+    } else {
+        write_line(rt, line.as_bytes())
+    };
+    say_left(rt, home, done.left());
+    told
+}
+
+/// Says on standard error what could not be synced, if there is such.
+pub fn say_left<R: Eprint>(rt: &R, home: Home<'_>, left: Left) {
+    match left {
+        Left::Changed(Replaced::Unsynced) => say_unsynced(rt, home),
+        Left::KeptUnsynced => say_kept_unsynced(rt, home),
+        Left::Changed(Replaced::Synced) | Left::Kept => {}
+    }
+}
+
+/// Says that a file was replaced, or a part was added, and the folder that it is in could not be synced.
+fn say_unsynced<R: Eprint>(rt: &R, home: Home<'_>) {
+    let name = Printable(home.name());
+    let _ = match home {
+        Home::File(_) => eprintln!(rt;
+            "{name}: this was replaced, but its folder could not be synced: a loss of power may bring the old file back"
+        ),
+        Home::Folder(_) => eprintln!(rt;
+            "{name}: the part was added, but the folder could not be synced: a loss of power may take it away"
+        ),
+    };
+}
+
+/// Says that nothing changed, and a file, or the parts, or the folder that they are in could not be synced.
+fn say_kept_unsynced<R: Eprint>(rt: &R, home: Home<'_>) {
+    let name = Printable(home.name());
+    let _ = match home {
+        Home::File(_) => eprintln!(rt;
+            "{name}: nothing changed, but this or its folder could not be synced: a loss of power may bring an older file back"
+        ),
+        Home::Folder(_) => eprintln!(rt;
+            "{name}: nothing was added, but the parts or the folder could not be synced: a loss of power may take parts away"
+        ),
+    };
+}
