@@ -131,15 +131,6 @@ module _ {X Y : Type 0} (view : X → Y) (changed : X → Bool) (command : Repli
         left_so how (changed x) old new is_file is_new finished,
       )
 
--- the same clause of bytes that are equal
-pub changes_at : {X Y : Type 0} (view : X → Y) (changed : X → Bool) (result : Result X Refusal) (command : Replica → Made Y) (file input start written now : List ℕ)
-    → input ≡ file → start ≡ [] → now ≡ written → Changes view changed result (Some input) (Some start) (Some now) command → Changes view changed result (Some file) (Some []) (Some written) command
-changes_at view changed result command file input start written now same empty is h =
-    let P : List ℕ → Type 0 = λ i. Changes view changed result (Some i) (Some start) (Some now) command in
-    let Q : List ℕ → Type 0 = λ s. Changes view changed result (Some file) (Some s) (Some now) command in
-    let R : List ℕ → Type 0 = λ w. Changes view changed result (Some file) (Some []) (Some w) command in
-    subst R is (subst Q empty (subst P same h))
-
 module _ {X Y : Type 0} (view : X → Y) (changed : X → Bool) (command : Replica → Made Y) (lock name : List ℕ) (apart : lock ≢ name) (before mid after : List Event) (input slice bytes written : List ℕ)
     (is_read : mid ≡ Read name (Some (Some input)) ∷ before) (is_slice : slice ≡ input) (is_written : written ≡ bytes) (x : X) (changes : Changes view changed (Ok x) (Some slice) (Some []) (Some bytes) command) where
   so : Changes view changed (Ok x) (Some input) (Some []) (Some bytes) command
@@ -152,6 +143,13 @@ module _ {X Y : Type 0} (view : X → Y) (changed : X → Bool) (command : Repli
   answered_at how finished = changes_answered view changed command lock name apart before mid after input is_read x bytes how so (subst (λ (b : List ℕ). Finishes how (changed x) lock name b mid after) is_written finished)
 
 module _ (lock name new : List ℕ) (before after : List Event) where
+  -- what was finished as an answer says
+  pub finished_any : (said is : Bool) → said ≡ is → AtAnyMoment said lock name new before after → AtAnyMoment is lock name new before after
+  finished_any said is same any = subst (λ (b : Bool). AtAnyMoment b lock name new before after) same any
+
+  pub finished_so : (how : Left) (said is : Bool) → said ≡ is → Finishes how said lock name new before after → Finishes how is lock name new before after
+  finished_so how said is same finished = subst (λ (b : Bool). Finishes how b lock name new before after) same finished
+
   pub finishes : (how : Replaced) (b : Bool) → b ≡ true → (how ≡ Synced → IsNew lock name new before after) → IsInPlace lock name new before after → Finishes (Changed how) b lock name new before after
   finishes Synced b is synced put = (is, synced refl)
   finishes Unsynced b is synced put = (is, put)

@@ -91,10 +91,7 @@ keeps_home command covering lock name before after covers told laters d e moment
 pub home_laws : FileHomeLaws
 home_laws = record {
   keep = files_keep;
-  import = λ load given words. keeps_home _;
-  delete = λ text. keeps_home _;
-  delete_rows = λ first last. keeps_home _;
+  change = λ command. keeps_home _;
   delete_held_rows = λ first last. keeps_home _;
   forget = keeps_home _;
-  apply = λ offers. keeps_home _;
 }

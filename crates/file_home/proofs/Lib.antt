@@ -3,3 +3,4 @@ pub mod HeldDeletes
 pub mod Whys
 pub mod Throughout
 pub mod Homes
+pub mod Rewrites

@@ -135,11 +135,8 @@ joins view command = record {
 
 pub holding_then_commanding : HoldingThenCommanding
 holding_then_commanding = record {
-  import = λ load given words. joins _ _;
-  delete = λ text. joins _ _;
-  delete_rows = λ first last. joins _ _;
+  change = λ command. joins _ _;
   delete_held_rows = λ first last. joins _ _;
   forget = joins _ _;
-  apply = λ offers. joins _ _;
   create = λ made lock name before held after takes stays either. created lock name before held after takes stays made either;
 }

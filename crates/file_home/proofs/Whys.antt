@@ -14,32 +14,12 @@ use Rattle.file_replacing.specs.Owning.{OwnLock, SomeLock, GivesBack}
 use Rattle.file_replacing.proofs.Failing.{fails_later}
 use Rattle.file_replacing.proofs.Owning.{owns_one, then_owns}
 use Rattle.file_home.specs.Finished.{in_memory}
-use Rattle.file_home.specs.Refused.{over_memory, IsRefusedOver, HasRead, IsWhyUnread, IsWhyRefused, IsWhyUnmade}
+use Rattle.file_home.specs.Refused.{IsRefusedOver, HasRead, IsWhyUnread, IsWhyRefused, IsWhyUnmade}
 
 -- what isn't out of memory stays as it is
-over_kind : (e : Refusal) → (over_memory e ≡ e) ⊎ (over_memory e ≡ Memory)
-over_kind ReadFault = inr refl
-over_kind WriteFault = inr refl
-over_kind other = inl refl
-
 in_kind : (e : Refusal) → (in_memory e ≡ e) ⊎ (in_memory e ≡ Memory)
 in_kind WriteFault = inr refl
 in_kind other = inl refl
-
-unread_over : (e : Refusal) → IsUnread e → over_memory e ≡ Memory
-unread_over e (inl is) = ap over_memory is
-unread_over e (inr is) = ap over_memory is
-
--- a call over bytes in memory that is refused
-pub refused_at : {X Y : Type 0} (view : X → Y) (changed : X → Bool) (e : Refusal) (command : Replica → Made Y) (file input : List ℕ) (before now : Option (List ℕ)) (refusal : Refusal)
-    → input ≡ file → refusal ≡ over_memory e → Changes view changed (Err e) (Some input) before now command → IsRefusedOver command file refusal
-refused_at {Y = Y} view changed e command file input before now refusal same is changes =
-    subst (λ (b : List ℕ). IsRefusedOver command b refusal) same (told (file_made (held_in input >>= command)) changes)
-  where
-    told : (w : Result (List ℕ) Refusal) → Refuses e before now w → (refusal ≡ Memory) ⊎ (w ≡ Err refusal)
-    told w (inl (kept, inl made)) = ⊎_elim (λ k. inr (made ∙ ap (λ (x : Refusal). let r : Result (List ℕ) Refusal = Err x in r) (sym (is ∙ k)))) (λ k. inl (is ∙ k)) (over_kind e)
-    told w (inl (kept, inr unread)) = inl (is ∙ unread_over e unread)
-    told w (inr (write, front)) = inl (is ∙ ap over_memory write)
 
 module _ (name : List ℕ) (before mid after : List Event) where
   -- the first call read the file
@@ -80,18 +60,3 @@ module _ (made : Result Table Refusal) (before after : List Event) where
   pub put_why : {T : Type 0} (r : Result T Refusal) → IfErr r (λ e. e ≡ WriteFault) → OnErr r (HasFailed before after) → IfErr r (λ e. IsWhyUnmade made before after e)
   put_why (Ok x) is failed = tt
   put_why (Err e) is failed = inr (inr (is, failed))
-
--- a fault comes before what is made
-pub over_fault : (h : Result Replica Refusal) (fault : Option Refusal) (f : Replica → Replica) (g : Replica → Made Bool) (e : Refusal)
-    → file_made {Y = Unit {0}} (h >>= λ r. unless_fault fault (Ok (tt, f r))) ≡ Err e → file_made {Y = Bool} (h >>= λ r. unless_fault fault (g r)) ≡ Err e
-over_fault (Err x) fault f g e is = is
-over_fault (Ok r) None f g e is = absurd (let x : ⊥ = cc in x)
-over_fault (Ok r) (Some x) f g e is = is
-
--- what is held is no fault
-pub held_lacks : {Y : Type 0} (command : Replica → Made Y) (bytes : List ℕ) (old : Replica) (e : Refusal) → held_in bytes ≡ Ok old → (held_in bytes ≡ Err e) ⊎ (e ≡ Memory) → IsRefusedOver command bytes e
-held_lacks command bytes old e held (inl fault) = absurd (no_both (held_in bytes) held fault)
-  where
-    no_both : (h : Result Replica Refusal) → h ≡ Ok old → h ≡ Err e → ⊥
-    no_both h a b = let x : Ok old ≡ Err e = sym a ∙ b in cc
-held_lacks command bytes old e held (inr lacks) = inl lacks

@@ -10,12 +10,6 @@ use Rattle.replica_commands.specs.Commands.{Made, file_made}
 use Rattle.file_replacing.specs.Event.{Event, Read}
 use Rattle.file_replacing.specs.Failed.{HasFailed}
 
--- what a refusal is if all reads and writes are of memory: one that failed ran out of memory
-abbrev pub over_memory : Refusal → Refusal
-over_memory ReadFault = Memory
-over_memory WriteFault = Memory
-over_memory other = other
-
 -- Bytes in memory are refused so: as the command refuses what they hold, or as their first fault; or memory ran out.
 abbrev pub IsRefusedOver : {Y : Type 0} → (Replica → Made Y) → List ℕ → Refusal → Type 0
 IsRefusedOver command bytes e = (e ≡ Memory) ⊎ (file_made (held_in bytes >>= command) ≡ Err e)

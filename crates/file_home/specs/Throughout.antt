@@ -2,21 +2,16 @@
 use Rattle.std.specs.Prelude.{◌≡◌, ◌⊎◌, ℕ, Bool, List, ◌++◌, Option, Some, Result, Ok, Contains}
 use Rattle.table_model.specs.State.{empty_state}
 use Rattle.table_model.specs.Table.{Table}
-use Rattle.table_model.specs.declared.names.BatchName.{BatchName}
 use Rattle.table_model.specs.declared.names.RowName.{RowName}
 use Rattle.table_model.specs.declared.refusal.Refusal.{Refusal}
-use Rattle.replica_store.specs.Exchange.{OfferForm}
-use Rattle.replica_store.specs.Replica.{Replica, deleted_rows}
+use Rattle.replica_store.specs.Replica.{Replica}
 use Rattle.column_file.specs.Files.{canonical_file}
 use Rattle.replica_reading.specs.Held.{held_in}
-use Rattle.replica_commands.specs.Commands.{Made, file_of, as_held, deleting, applying}
+use Rattle.replica_commands.specs.CommandForms.{CommandForm, adding, answer_of}
+use Rattle.replica_commands.specs.Commands.{Made, file_of, as_held}
 use Rattle.replica_commands.specs.Forgetting.{forgetting}
-use Rattle.replica_commands.specs.Loads.{LoadForm, importing}
-use Rattle.replica_commands.specs.declared.applying.Applied.{Applied}
-use Rattle.replica_commands.specs.declared.deleting.Deleted.{Deleted}
-use Rattle.replica_commands.specs.declared.deleting.DeletedRows.{DeletedRows}
+use Rattle.replica_commands.specs.declared.command.Answer.{Answer}
 use Rattle.replica_store.specs.declared.forgotten.Forgotten.{Forgotten}
-use Rattle.replica_commands.specs.declared.importing.Imported.{Imported}
 use Rattle.file_replacing.specs.Event.{Event}
 use Rattle.file_replacing.specs.Disk.{Disk, MayLeave, MayShow, Reads}
 use Rattle.file_replacing.specs.Failed.{HasFailed}
@@ -115,12 +110,9 @@ pub record Joins {X Y : Type 0} (view : X → Y) (command : Replica → Made Y) 
 
 -- each command, with the taking of its lock
 pub record HoldingThenCommanding : Type 0 where
-  pub import : (load : LoadForm) (given : Option BatchName) (words : List ℕ) → Joins {X = Imported} (λ answer. answer) (importing load given words)
-  pub delete : (text : List ℕ) → Joins {X = Deleted} (λ answer. answer.rows) (deleting text)
-  pub delete_rows : (first : RowName) (last : ℕ) → Joins {X = DeletedRows} (λ answer. tt) (λ r. deleted_rows r first last)
+  pub change : (command : CommandForm) → Joins {X = Answer} answer_of (adding command)
   pub delete_held_rows : (first : RowName) (last : ℕ) → Joins {X = HeldRows} (λ answer. answer.is_held) (λ r. deleted_if_held r first last)
   pub forget : Joins {X = Forgotten} (λ answer. (answer.batches, answer.rows)) forgetting
-  pub apply : (offers : List OfferForm) → Joins {X = Applied} (λ answer. (answer.batches, answer.ranges, answer.new)) (applying offers)
   pub create : (made : Result Table Refusal) (lock name : List ℕ) (before held after : List Event) →
       TakesLock lock name before held → StaysOld lock name before held →
       Creating made lock name held after → CreatingThroughout made lock name before after

@@ -10,23 +10,25 @@ ghost use Rattle.file_home.specs.CrashLaws.{BeforeOrAfter, HasAnswered};
 ghost use Rattle.file_home.specs.Refused.{IsRefusedOver, IsWhyRefused};
 
 use crate::Outcome;
-use crate::under_lock::{finish, leave, read_file, refusal_over_memory};
+use crate::rewriting::{opened, written};
+use crate::under_lock::{finish, leave, read_file};
 use file_replacing::{Folder, Place};
+use replica_commands::forget_dead;
 use replica_store::Forgotten;
 use std::alloc::Global;
-use table_model::{Counted, Refusal};
+use table_model::Refusal;
 
-/// What a forget answers, and the bytes that it wrote, which are none if no batch was dropped.
-fn forgotten(alloc: Global, file: &[u8]) -> Result<(Forgotten, Vec<u8>), Refusal>
+/// What a forget answers of the file of these bytes, and the bytes of the file after, which are none if no batch was dropped. The bytes
+/// before are let go before it begins.
+fn forgotten(alloc: Global, file: Vec<u8>) -> Result<(Forgotten, Vec<u8>), Refusal>
     ensures { MatchResult result
-        (λ made. Changes (λ answer. (answer.batches, answer.rows)) (λ answer. not (answer.batches == 0)) (Ok made.0) (Some file.now) (Some []) (Some made.1.items) forgetting)
-        (λ e. IsRefusedOver forgetting file.now e) }
+        (λ made. Changes (λ answer. (answer.batches, answer.rows)) (λ answer. not (answer.batches == 0)) (Ok made.0) (Some file.items) (Some []) (Some made.1.items) forgetting)
+        (λ e. IsRefusedOver forgetting file.items e) }
 {
-    let mut writer = Counted::new(Vec::new(alloc));
-    match replica_commands::forget(alloc, &mut Counted::new(file), &mut writer) {
-        Ok(answer) => Ok((answer, writer.into_inner())),
-        Err(refusal) => Err(refusal_over_memory(refusal)),
-    }
+    let mut store = opened(alloc, file)?;
+    let answer = forget_dead(alloc, &mut store)?;
+    let new = written(alloc, &store, answer.batches != 0)?;
+    Ok((answer, new))
 }
 
 /// Drops the batches of which every row is deleted, of a file whose lock the caller has, under the refusals of [`replica_commands::forget`].
@@ -42,7 +44,7 @@ pub fn forget<F: Folder>(
     ensures own { GivesBack (string_bytes place.now.lock) (F.history folder.old) (F.history folder.new) }
 {
     let old = read_file(alloc, folder, place)?;
-    match forgotten(alloc, old.as_slice()) {
+    match forgotten(alloc, old) {
         Ok((answer, new)) => {
             let left = finish(folder, place, answer.batches != 0, new.as_slice())?;
             Ok(Outcome { answer, left })

@@ -1,23 +1,23 @@
 //! Deleting rows of a file's batch only if the file holds the batch.
-ghost use Rattle.std.specs.Prelude.{◌≡◌, ◌≢◌, ◌⊎◌, [], Some, Ok, Err, IfOk, IfErr, MatchResult};
+ghost use Rattle.std.specs.Prelude.{◌≡◌, ◌≢◌, [], Some, Ok, IfOk, IfErr, MatchResult};
 ghost use Rattle.std.specs.String.{string_bytes};
 ghost use Rattle.table_model.specs.declared.refusal.Refusal.TheVariants.{Memory, WriteFault};
 ghost use Rattle.file_replacing.specs.Owning.{GivesBack};
 ghost use Rattle.file_replacing.specs.Safe.{StaysOld};
-ghost use Rattle.replica_store.specs.Replica.{Replica};
-ghost use Rattle.replica_reading.specs.Held.{held_in};
 ghost use Rattle.replica_commands.specs.Commands.{Changes};
 ghost use Rattle.file_home.specs.CrashLaws.{BeforeOrAfter, HasAnswered};
 ghost use Rattle.file_home.specs.Refused.{IsRefusedOver, IsWhyRefused};
 ghost use Rattle.file_home.specs.HeldDeletes.{deleted_if_held, holds};
 
 use crate::Outcome;
-use crate::deleting::rows_deleted;
+use crate::changing::made;
+use crate::rewriting::opened;
 use crate::under_lock::{finish, leave, read_file};
-use column_file::open_bytes;
 use file_replacing::{Folder, Place};
+use replica_commands::Command;
+use replica_store::Store;
 use std::alloc::Global;
-use table_model::{BatchName, Origin, Refusal, RowName};
+use table_model::{BatchName, Refusal, RowName};
 
 /// What a delete of rows of a batch that has to be held did.
 #[derive(Clone, Copy, Debug, PartialEq, Eq)]
@@ -28,34 +28,33 @@ pub struct HeldRows {
     pub is_changed: bool,
 }
 
-/// Whether the file of these bytes holds a batch.
-fn holds(alloc: Global, file: &[u8], name: BatchName) -> Result<bool, Refusal>
-    ensures { MatchResult result
-        (λ held. (r : Replica) → held_in file.now ≡ Ok r → held ≡ holds r name)
-        (λ e. (held_in file.now ≡ Err e) ⊎ (e ≡ Memory)) }
+/// Whether a store holds a batch.
+fn holds(alloc: Global, store: &Store, name: BatchName) -> Result<bool, Refusal>
+    ensures { MatchResult result (λ held. held ≡ holds store.now.replica name) (λ e. e ≡ Memory) }
 {
-    let store = open_bytes(alloc, file, Origin(1))?;
     let summary = store.summary(alloc)?;
     Ok(summary.names().holds(name))
 }
 
-/// What a delete of rows of a batch that has to be held answers, and the bytes that it wrote, which are none if nothing changed.
+/// What a delete of rows of a batch that has to be held answers of the file of these bytes, and the bytes of the file after, which are
+/// none if nothing changed. The bytes before are let go before it begins.
 fn held_rows_deleted(
     alloc: Global,
-    file: &[u8],
+    file: Vec<u8>,
     first: RowName,
     last: u16,
 ) -> Result<(HeldRows, Vec<u8>), Refusal>
     ensures { MatchResult result
-        (λ made. Changes (λ answer. answer.is_held) (λ answer. answer.is_changed) (Ok made.0) (Some file.now) (Some []) (Some made.1.items) (λ r. deleted_if_held r first last))
-        (λ e. IsRefusedOver (λ r. deleted_if_held r first last) file.now e) }
+        (λ made. Changes (λ answer. answer.is_held) (λ answer. answer.is_changed) (Ok made.0) (Some file.items) (Some []) (Some made.1.items) (λ r. deleted_if_held r first last))
+        (λ e. IsRefusedOver (λ r. deleted_if_held r first last) file.items e) }
 {
-    let (deleted, new) = rows_deleted(alloc, file, first, last)?;
-    let is_held = holds(alloc, file, first.batch)?;
+    let store = opened(alloc, file)?;
+    let is_held = holds(alloc, &store, first.batch)?;
+    let (deleted, new) = made(alloc, store, Command::DeleteRows { first, last })?;
     if is_held {
         let answer = HeldRows {
             is_held: true,
-            is_changed: deleted.is_changed,
+            is_changed: deleted.is_changed(),
         };
         Ok((answer, new))
     } else {
@@ -67,8 +66,8 @@ fn held_rows_deleted(
     }
 }
 
-/// Deletes rows by their names, if their batch is held, of a file whose lock the caller has, under the refusals of
-/// [`replica_commands::delete_rows`].
+/// Deletes rows by their names, if their batch is held, of a file whose lock the caller has, under the refusals of [`change`](crate::change)
+/// by [`Command::DeleteRows`].
 pub fn delete_held_rows<F: Folder>(
     alloc: Global,
     folder: &mut F,
@@ -83,7 +82,7 @@ pub fn delete_held_rows<F: Folder>(
     ensures own { GivesBack (string_bytes place.now.lock) (F.history folder.old) (F.history folder.new) }
 {
     let old = read_file(alloc, folder, place)?;
-    match held_rows_deleted(alloc, old.as_slice(), first, last) {
+    match held_rows_deleted(alloc, old, first, last) {
         Ok((answer, new)) => {
             let left = finish(folder, place, answer.is_changed, new.as_slice())?;
             Ok(Outcome { answer, left })

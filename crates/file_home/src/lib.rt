@@ -2,24 +2,21 @@
 //! makes of it. A crash at any moment leaves the file before or the file after.
 #![tactic(auto)]
 
-mod applying;
+mod changing;
 mod creating;
-mod deleting;
 mod forgetting;
 mod held_rows;
-mod importing;
 mod laws;
 mod merging;
 mod outcome;
 mod putting;
+mod rewriting;
 mod under_lock;
 
-pub use applying::apply;
+pub use changing::change;
 pub use creating::create;
-pub use deleting::{delete, delete_rows};
 pub use forgetting::forget;
 pub use held_rows::{HeldRows, delete_held_rows};
-pub use importing::import;
 pub use laws::{files_keep, holding_then_commanding};
 pub use merging::merged;
 pub use outcome::{Left, Outcome};

@@ -8,7 +8,7 @@ ghost use Rattle.file_replacing.specs.Owning.{GivesBack};
 ghost use Rattle.table_model.specs.declared.refusal.Refusal.TheVariants.{WriteFault};
 ghost use Rattle.column_file.specs.Input.{IsUnread};
 ghost use Rattle.file_home.specs.Finished.{AtAnyMoment, Finishes, in_memory};
-ghost use Rattle.file_home.specs.Refused.{IsWhyUnread, over_memory};
+ghost use Rattle.file_home.specs.Refused.{IsWhyUnread};
 
 use crate::Left;
 use crate::putting::put;
@@ -89,16 +89,6 @@ pub(crate) fn refusal_in_memory(refusal: Refusal) -> Refusal
 {
     match refusal {
         Refusal::WriteFault => Refusal::Memory,
-        other => other,
-    }
-}
-
-/// What a command that read and wrote bytes in memory is refused as: a read or a write that failed ran out of memory.
-pub(crate) fn refusal_over_memory(refusal: Refusal) -> Refusal
-    ensures { result ≡ over_memory refusal }
-{
-    match refusal {
-        Refusal::ReadFault | Refusal::WriteFault => Refusal::Memory,
         other => other,
     }
 }

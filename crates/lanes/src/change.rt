@@ -1,13 +1,14 @@
 //! What a command changes in a file, and what it says of that.
 
+use column_file::open;
 use file_home::{HeldRows, Left};
 use file_replacing::{Folder, Place};
-use replica_commands::{Applied, Deleted, DeletedRows, Imported, Load, file_schema};
-use replica_store::{Forgotten, Offer};
+use replica_commands::{Answer, Applied, Command, Imported, bring, file_schema};
+use replica_store::Forgotten;
 use std::alloc::Global;
 use std::fmt;
 use std::io::{self, Read};
-use table_model::{BatchName, ColType, Counted, Refusal, RowName};
+use table_model::{ColType, Counted, Origin, Refusal, RowName};
 
 /// What a command changes in a file.
 #[derive(Drop)]
@@ -17,21 +18,8 @@ pub enum Change<'a> {
         table: &'a str,
         columns: &'a [(&'a str, ColType)],
     },
-    /// It inserts batches under names that begin with the one that is given, or else with one that the random words draw.
-    Import {
-        load: Load,
-        first: Option<BatchName>,
-        words: &'a [u64],
-    },
-    /// It deletes the rows at which a condition is true.
-    Delete {
-        condition: &'a str,
-    },
-    /// It deletes rows by their names, held or not.
-    DeleteRows {
-        first: RowName,
-        last: u16,
-    },
+    /// It adds what a command brings.
+    Add(Command<'a>),
     /// It deletes rows by their names if their batch is held.
     DeleteHeldRows {
         first: RowName,
@@ -39,10 +27,6 @@ pub enum Change<'a> {
     },
     /// It drops the batches of which every row is deleted.
     Forget,
-    /// It applies offers.
-    Apply {
-        offers: Vec<Offer>,
-    },
 }
 
 impl<'a> Change<'a> {
@@ -56,31 +40,19 @@ impl<'a> Change<'a> {
         let (answer, left) = match self {
             Change::Create { table, columns } => {
                 let replaced = file_home::create(alloc, folder, place, table, columns)?;
-                (Answer::Created, Left::Changed(replaced))
+                (Reply::Created, Left::Changed(replaced))
             }
-            Change::Import { load, first, words } => {
-                let done = file_home::import(alloc, folder, place, load, first, words)?;
-                (Answer::Imported(done.answer), done.left)
-            }
-            Change::Delete { condition } => {
-                let done = file_home::delete(alloc, folder, place, condition)?;
-                (Answer::Deleted(done.answer), done.left)
-            }
-            Change::DeleteRows { first, last } => {
-                let done = file_home::delete_rows(alloc, folder, place, first, last)?;
-                (Answer::DeletedRows(done.answer), done.left)
+            Change::Add(command) => {
+                let done = file_home::change(alloc, folder, place, command)?;
+                (Reply::Added(done.answer), done.left)
             }
             Change::DeleteHeldRows { first, last } => {
                 let done = file_home::delete_held_rows(alloc, folder, place, first, last)?;
-                (Answer::DeletedHeldRows(done.answer), done.left)
+                (Reply::DeletedHeldRows(done.answer), done.left)
             }
             Change::Forget => {
                 let done = file_home::forget(alloc, folder, place)?;
-                (Answer::Forgotten(done.answer), done.left)
-            }
-            Change::Apply { offers } => {
-                let done = file_home::apply(alloc, folder, place, offers)?;
-                (Answer::Applied(done.answer), done.left)
+                (Reply::Forgotten(done.answer), done.left)
             }
         };
         Ok(Done::new(answer, left))
@@ -93,21 +65,11 @@ impl<'a> Change<'a> {
             Change::Create { table, columns } => {
                 replica_commands::create(alloc, table, columns, &mut nowhere)
             }
-            Change::Import { load, first, words } => {
-                replica_commands::import(alloc, reader, load, first, words, &mut nowhere).map(
-                    |_| (),
-                )
-            }
-            Change::Delete { condition } => {
-                replica_commands::delete(alloc, reader, condition, &mut nowhere).map(|_| ())
-            }
-            Change::DeleteRows { first, last } | Change::DeleteHeldRows { first, last } => {
-                replica_commands::delete_rows(alloc, reader, first, last, &mut nowhere).map(|_| ())
+            Change::Add(command) => judge_command(alloc, reader, command),
+            Change::DeleteHeldRows { first, last } => {
+                judge_command(alloc, reader, Command::DeleteRows { first, last })
             }
             Change::Forget => replica_commands::forget(alloc, reader, &mut nowhere).map(|_| ()),
-            Change::Apply { offers } => {
-                replica_commands::apply(alloc, reader, offers, &mut nowhere).map(|_| ())
-            }
         }
     }
 
@@ -129,29 +91,42 @@ impl<'a> Change<'a> {
     }
 }
 
-/// What a command answers.
+/// Whether a command would be refused of a file as it is.
+fn judge_command<R: Read>(
+    alloc: Global,
+    reader: &mut Counted<R>,
+    command: Command<'_>,
+) -> Result<(), Refusal> {
+    let held = open(alloc, reader, Origin(1))?;
+    let _brought = bring(alloc, &held, command)?;
+    Ok(())
+}
+
+/// What a change answers.
 #[derive(Drop)]
-pub enum Answer {
+pub enum Reply {
     Created,
-    Imported(Imported),
-    Deleted(Deleted),
-    DeletedRows(DeletedRows),
+    Added(Answer),
     DeletedHeldRows(HeldRows),
     Forgotten(Forgotten),
-    Applied(Applied),
 }
 
 /// What came of a change.
 #[derive(Drop)]
 pub struct Done {
-    answer: Answer,
+    reply: Reply,
     left: Left,
 }
 
 impl Done {
-    /// A command's answer, and how it left what it is about.
-    pub fn new(answer: Answer, left: Left) -> Done {
-        Done { answer, left }
+    /// What a change answers, and how it left what it is about.
+    pub fn new(reply: Reply, left: Left) -> Done {
+        Done { reply, left }
+    }
+
+    /// What a command answers that adds to what is held, and how it left that.
+    pub fn added(answer: Answer, left: Left) -> Done {
+        Done::new(Reply::Added(answer), left)
     }
 
     /// How it left that.
@@ -163,30 +138,41 @@ impl Done {
 /// The line that a command says of what it did, without its end.
 impl fmt::Display for Done {
     fn fmt<W: fmt::Write>(&self, f: &mut fmt::Formatter<W>) -> fmt::Result {
-        match &self.answer {
-            Answer::Created | Answer::DeletedRows(_) => f.write_str("ok"),
-            Answer::DeletedHeldRows(done) => {
+        match &self.reply {
+            Reply::Created => f.write_str("ok"),
+            Reply::Added(answer) => write_answer(answer, f),
+            Reply::DeletedHeldRows(done) => {
                 let held = u8::from(done.is_held);
                 write!(f, "ok held={held}")
             }
-            Answer::Imported(imported) => write_import(imported, f),
-            Answer::Deleted(deleted) => {
-                let rows = deleted.rows;
-                write!(f, "ok {rows}")
-            }
-            Answer::Forgotten(forgotten) => {
+            Reply::Forgotten(forgotten) => {
                 let batches = forgotten.batches;
                 let rows = forgotten.rows;
                 write!(f, "ok batches={batches} rows={rows}")
             }
-            Answer::Applied(applied) => {
-                let batches = applied.batches;
-                let ranges = applied.ranges;
-                let new = applied.new;
-                write!(f, "ok batches={batches} ranges={ranges} new={new}")
-            }
         }
     }
+}
+
+/// The line of a command that adds to what is held.
+fn write_answer<W: fmt::Write>(answer: &Answer, f: &mut fmt::Formatter<W>) -> fmt::Result {
+    match answer {
+        Answer::Imported(imported) => write_import(imported, f),
+        Answer::Deleted(deleted) => {
+            let rows = deleted.rows;
+            write!(f, "ok {rows}")
+        }
+        Answer::DeletedRows(_) => f.write_str("ok"),
+        Answer::Applied(applied) => write_apply(applied, f),
+    }
+}
+
+/// The line of an apply: how many batches and ranges of deleted rows there are then, and how many of the batches weren't held.
+fn write_apply<W: fmt::Write>(applied: &Applied, f: &mut fmt::Formatter<W>) -> fmt::Result {
+    let batches = applied.batches;
+    let ranges = applied.ranges;
+    let new = applied.new;
+    write!(f, "ok batches={batches} ranges={ranges} new={new}")
 }
 
 /// The line of an import: how many batches the rows made, how many of them weren't held, how many rows, and the first name.

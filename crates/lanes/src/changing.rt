@@ -14,6 +14,7 @@ use crate::watched_folder::{Unheld, WatchedFolder};
 use command_line::{CsvForm, Source};
 use file_replacing::{Folder, HoldError, Place, SystemFolder};
 use refusal_sentences::{CommandRefusal, is_of_a_text};
+use replica_commands::Command;
 use std::fs::Files;
 use table_model::{BatchName, ColType, Counted, Refusal, RowName, Schema};
 
@@ -64,7 +65,11 @@ pub fn import<R: Host>(
         rt,
         progress,
         file,
-        Change::Import { load, first, words },
+        Change::Add(Command::Import {
+            load,
+            given: first,
+            words,
+        }),
         About::Nothing,
     )
 }
@@ -80,7 +85,7 @@ pub fn delete<R: Host>(
         rt,
         progress,
         file,
-        Change::Delete { condition },
+        Change::Add(Command::Delete { condition }),
         About::Condition(condition),
     )
 }
@@ -97,7 +102,7 @@ pub fn delete_rows<R: Host>(
     let asked = if is_held {
         Change::DeleteHeldRows { first, last }
     } else {
-        Change::DeleteRows { first, last }
+        Change::Add(Command::DeleteRows { first, last })
     };
     change(rt, progress, file, asked, About::Nothing)
 }
@@ -124,7 +129,8 @@ pub fn apply<R: Host>(
     let tables = OfferTables::of(rt.alloc(), offers.as_slice())?;
     let tables = &tables;
     let about = About::Offers { tables, sources };
-    change(rt, progress, file, Change::Apply { offers }, about)
+    let asked = Change::Add(Command::Apply { offers });
+    change(rt, progress, file, asked, about)
 }
 
 /// What is known of a change, for the sentence of its refusal.

@@ -1,6 +1,6 @@
 //! The commands that change a folder of parts: what each brings is put into it as one more part.
 
-use crate::change::{Answer, Done};
+use crate::change::{Done, Reply};
 use crate::failure::Failure;
 use crate::folders::{Opened, open_folder, read_heads};
 use crate::home::is_there;
@@ -16,7 +16,7 @@ use folder_home::{
     check_room, part_of_deletes, part_of_load, part_of_named_load, part_of_offers, part_of_rows,
 };
 use refusal_sentences::{CommandRefusal, is_of_a_text};
-use replica_commands::DeletedRows;
+use replica_commands::{Answer, DeletedRows};
 use replica_reading::OpenFile;
 use replica_store::Store;
 use table_model::{BatchName, ColType, Counted, Refusal, RowName};
@@ -38,7 +38,7 @@ pub fn create<R: Host>(
         Err(refusal) => return Err(unmade(rt, folder, refusal)),
     }
     let replaced = make_folder(rt, folder, writer.into_inner().as_slice())?;
-    Ok(Done::new(Answer::Created, Left::Changed(replaced)))
+    Ok(Done::new(Reply::Created, Left::Changed(replaced)))
 }
 
 /// Puts the rows of comma-separated values into a folder as one part, under names that are drawn or begin with the one that is given.
@@ -72,10 +72,10 @@ fn import_drawn<R: Host>(
     let words = random_words(rt)?;
     let mut writer = Counted::new(Vec::new(rt.alloc()));
     match part_of_load(rt.alloc(), load, &words, &mut writer) {
-        Ok(done) if done.new == 0 => Ok(Done::new(Answer::Imported(done), Left::Kept)),
+        Ok(done) if done.new == 0 => Ok(Done::added(Answer::Imported(done), Left::Kept)),
         Ok(done) => {
             let replaced = put_part(rt, folder, writer.into_inner().as_slice())?;
-            Ok(Done::new(Answer::Imported(done), Left::Changed(replaced)))
+            Ok(Done::added(Answer::Imported(done), Left::Changed(replaced)))
         }
         Err(refusal) => Err(unmade(rt, folder, refusal)),
     }
@@ -97,12 +97,12 @@ fn import_named<R: Host>(
     match part_of_named_load(rt.alloc(), &opened.held, load, first, &mut writer) {
         Ok(done) if done.new == 0 => {
             let left = keep_all(rt, folder, &opened.parts);
-            Ok(Done::new(Answer::Imported(done), left))
+            Ok(Done::added(Answer::Imported(done), left))
         }
         Ok(done) => {
             let bytes = writer.into_inner();
             let replaced = put_judged(rt, folder, &opened.parts, bytes.as_slice())?;
-            Ok(Done::new(Answer::Imported(done), Left::Changed(replaced)))
+            Ok(Done::added(Answer::Imported(done), Left::Changed(replaced)))
         }
         Err(refusal) => Err(unmade(rt, folder, refusal)),
     }
@@ -120,11 +120,11 @@ pub fn delete<R: Host>(
     match part_of_deletes(rt.alloc(), opened.held.store(), condition, &mut writer) {
         Ok(done) if done.rows == 0 => {
             let left = keep_all(rt, folder, &opened.parts);
-            Ok(Done::new(Answer::Deleted(done), left))
+            Ok(Done::added(Answer::Deleted(done), left))
         }
         Ok(done) => {
             let replaced = put_part(rt, folder, writer.into_inner().as_slice())?;
-            Ok(Done::new(Answer::Deleted(done), Left::Changed(replaced)))
+            Ok(Done::added(Answer::Deleted(done), Left::Changed(replaced)))
         }
         Err(refusal) if is_of_a_text(refusal) => {
             let schema = Some(opened.held.schema());
@@ -147,7 +147,7 @@ pub fn delete_rows<R: Host>(
         Ok(()) => {
             let replaced = put_part(rt, folder, writer.into_inner().as_slice())?;
             let answer = Answer::DeletedRows(DeletedRows { is_changed: true });
-            Ok(Done::new(answer, Left::Changed(replaced)))
+            Ok(Done::added(answer, Left::Changed(replaced)))
         }
         Err(refusal) => Err(unmade(rt, folder, refusal)),
     }
@@ -182,7 +182,7 @@ pub fn delete_held_rows<R: Host>(
         is_held,
         is_changed: is_held,
     };
-    Ok(Done::new(Answer::DeletedHeldRows(answer), left))
+    Ok(Done::new(Reply::DeletedHeldRows(answer), left))
 }
 
 /// Puts what offers bring into a folder as one part, all or none. Of two applies at once that have other rows under one name the second
@@ -200,12 +200,12 @@ pub fn apply<R: Host>(
     match part_of_offers(rt.alloc(), &opened.held, offers, &mut writer) {
         Ok(done) if !done.is_changed => {
             let left = keep_all(rt, folder, &opened.parts);
-            Ok(Done::new(Answer::Applied(done), left))
+            Ok(Done::added(Answer::Applied(done), left))
         }
         Ok(done) => {
             let bytes = writer.into_inner();
             let replaced = put_judged(rt, folder, &opened.parts, bytes.as_slice())?;
-            Ok(Done::new(Answer::Applied(done), Left::Changed(replaced)))
+            Ok(Done::added(Answer::Applied(done), Left::Changed(replaced)))
         }
         Err(Refusal::SchemaDiffers) => {
             let schema = opened.held.schema();

@@ -1,6 +1,6 @@
 //! Forgetting in a folder: all parts are joined, and what is left of them without dead batches is put in their place.
 
-use crate::change::{Answer, Done};
+use crate::change::{Done, Reply};
 use crate::failure::Failure;
 use crate::folders::{Opened, open_folder};
 use crate::host::Host;
@@ -26,7 +26,7 @@ pub fn forget_folder<R: Host>(
     let mut patience = Patience::new(rt);
     for _ in 0..u64::MAX {
         if let Some((done, left)) = forget_once(rt, progress, folder)? {
-            return Ok(Done::new(Answer::Forgotten(done), left));
+            return Ok(Done::new(Reply::Forgotten(done), left));
         }
         if !patience.wait(rt) {
             break;

@@ -1,6 +1,6 @@
 //! The merge of files and of folders.
 
-use crate::change::{Answer, Done};
+use crate::change::{Done, Reply};
 use crate::checked_part::{CheckedPart, PartReason};
 use crate::failure::Failure;
 use crate::folders::Parts;
@@ -50,7 +50,7 @@ pub fn merge<R: Host>(
         Home::File(out) if is_special(rt, out) => return fill(rt, progress, out, names),
         Home::File(out) => replace(rt, progress, out, names)?,
     };
-    say(rt, home, &Done::new(Answer::Created, left), is_quiet)
+    say(rt, home, &Done::new(Reply::Created, left), is_quiet)
 }
 
 /// Makes a folder whose one part is what all of some files hold.

@@ -1,30 +1,33 @@
 -- What offers and a load bring to a store that is only read, from what its calls answered.
-use Rattle.std.specs.Prelude.{◌≡◌, ◌⊎◌, ℕ, ◌+◌, ◌≤◌, ◌-◌, Bool, false, not, ◌==◌, List, [], ◌∷◌, length, Option, Result, Ok, Err, IsOk}
+use Rattle.std.specs.Prelude.{◌≡◌, ◌⊎◌, ℕ, ◌+◌, ◌≤◌, ◌-◌, Bool, true, false, not, ◌||◌, ◌==◌, List, [], ◌∷◌, length, Option, Some, None, Result, Ok, Err, IsOk}
 use Rattle.std.proofs.Common.{refl, sym, ap, subst, ◌∙◌, inl, inr, arith}
 use Rattle.std.specs.FinMap as map
 use Rattle.std.specs.FinSet as set
-use Rattle.table_model.specs.Name.{name_cmp}
+use Rattle.table_model.specs.Name.{name_cmp, row_name_cmp}
 use Rattle.table_model.specs.Reading.{◌>>=◌}
-use Rattle.table_model.specs.State.{State, Batch}
+use Rattle.table_model.specs.State.{State, Batch, union_of}
 use Rattle.table_model.specs.Table.{Table}
 use Rattle.table_model.specs.declared.names.BatchName.{BatchName}
 use Rattle.table_model.specs.declared.names.RowName.{RowName}
 use Rattle.table_model.specs.declared.refusal.Refusal.{Refusal}
 use Rattle.table_model.specs.declared.refusal.Refusal.TheVariants.{Memory}
+use Rattle.table_model.proofs.NameOrder.{row_names_total}
 use Rattle.catalogue_join.specs.RowRange.{RowRange, AreMaximal, rows_in}
 use Rattle.replica_store.specs.Brought.{AreApart, BroughtForm, IsBrought, both_of, unheld_state}
 use Rattle.replica_store.specs.Exchange.{OfferForm, offering, applied}
-use Rattle.replica_store.specs.Replica.{Replica, SaysChange, batch_limit, deleted_names, joined_with, names_fault, new_replica, unless_fault, with_deleted, with_join}
+use Rattle.replica_store.specs.Replica.{Replica, SaysChange, batch_limit, delete_fault, deleted_names, deleted_rows, joined_with, names_fault, new_replica, rows_between, unless_fault, with_deleted, with_join}
 use Rattle.replica_store.specs.Segments.{StoreForm}
 use Rattle.replica_store.proofs.Brings.{held_alone, len_apart, nothing_brought, nothing_join, unheld_join, unheld_nothing}
+use Rattle.replica_store.proofs.Idle.{deletions_same}
 use Rattle.replica_store.proofs.JoinedStores.{new_is, union-empty}
 use Rattle.replica_store.proofs.Limits.{ok_unless}
 use Rattle.replica_store.proofs.MergeAnswers.{made_of}
 use Rattle.store_view.specs.Asked.{condition_names}
-use Rattle.replica_commands.specs.Brings.{BringsTo, brought_to, deletes_brought, empty_replica, load_brought, offers_brought, with_offers}
+use Rattle.replica_commands.specs.Brings.{BringsTo, brought_to, deletes_brought, empty_replica, load_brought, offers_brought, rows_brought, with_offers}
 use Rattle.replica_commands.specs.Commands.{Made, applied_all, applying, deleting}
 use Rattle.replica_commands.specs.Loads.{LoadForm, chosen_name, imported_as, importing, importing_as, loaded, new_since}
 use Rattle.replica_commands.specs.declared.deleting.Deleted.{Deleted}
+use Rattle.replica_commands.specs.declared.deleting.DeletedRows.{DeletedRows}
 use Rattle.replica_commands.specs.declared.importing.Imported.{Imported}
 use Rattle.replica_commands.proofs.Imports.{import_done, import_refused}
 use Rattle.replica_commands.proofs.StoreCommands.{deletes_ok, told_applied, untold_applied}
@@ -248,5 +251,63 @@ deletes_done held first own t text names slice count u finds same counted schema
         joined = told.0 ∙ (λ i. let ok : Made ℕ = Ok (count, turned i) in ok);
         more = subst (SaysChange (not (count == 0)) h) turned told.1;
         brought = brought_same held first own (nothing_brought held first t schema new limit) (ap (λ (r : Replica). r.schema) own_is) (ap (λ (r : Replica). r.state.batches) own_is);
+      },
+    )
+
+-- ---- deletes of ranges
+
+fault_is : (o : Option Refusal) (r : Replica) (e : Refusal) → unless_fault {X = Unit {0} × Replica} o (Ok (tt, r)) ≡ Err e → o ≡ Some e
+fault_is None r e is = cc
+fault_is (Some fault) r e is = cc
+
+pub rows_stopped : (held : StoreForm) (start : Replica) (first : RowName) (last : ℕ) (e : Refusal) → (deleted_rows start first last ≡ Err e) ⊎ ((e ≡ Memory) × IsOk (deleted_rows start first last))
+    → BringsTo {X = DeletedRows} (λ d. tt) (λ d. d.is_changed) (Err e) held (rows_brought first last held.replica) (deleted_rows held.replica first last)
+rows_stopped held start first last e (inr lack) = inr lack.0
+rows_stopped held start first last e (inl refused) =
+    let fault : delete_fault first last ≡ Some e = fault_is (delete_fault first last) (with_deleted start (rows_between first last)) e refused in
+    inl (
+      ap (λ (o : Option Refusal). unless_fault {X = Unit {0} × Replica} o (Ok (tt, with_deleted (empty_replica held.replica.schema) (rows_between first last)))) fault,
+      ap (λ (o : Option Refusal). unless_fault {X = Unit {0} × Replica} o (Ok (tt, with_deleted held.replica (rows_between first last)))) fault,
+    )
+
+or_there : (a b : Bool) → b ≡ true → (a || b) ≡ true
+or_there true b there = refl
+or_there false b there = there
+
+not_false : (b : Bool) → not b ≡ false → b ≡ true
+not_false true is = refl
+not_false false is = cc
+
+-- deletions are more than what is held exactly if one of them is not among those
+deletions_say : (h own : Replica) → own.state.batches ≡ map.empty → SaysChange (not (set.is_subset own.state.deleted h.state.deleted)) h (with_join h own)
+deletions_say h own none = (
+  λ within.
+      let deleted = deletions_same h.state.deleted own.state.deleted (not_false (set.is_subset own.state.deleted h.state.deleted) within) in
+      let batches = ap (λ (m : map.FinMap name_cmp Batch). union_of h.state.batches m) none ∙ union-empty h.state.batches in
+      λ i. record { schema = h.schema; own = h.own; state = record { batches = batches i; deleted = deleted i } },
+  λ stays.
+      ap not (set.contains-is_subset row_names_total own.state.deleted h.state.deleted (λ q there.
+      ap (λ (r : Replica). set.contains r.state.deleted q) (sym stays) ∙ set.contains-union row_names_total h.state.deleted own.state.deleted q ∙ or_there (set.contains h.state.deleted q) (set.contains own.state.deleted q) there)),
+)
+
+-- a range of rows, and their deletions
+pub rows_done : (held start own : StoreForm) (t : Table) (first : RowName) (last : ℕ) (more : Bool) (u : Unit {0}) → t ≡ held.replica.schema → new_replica t (record { 0 = 1 }) ≡ Ok start.replica
+    → deleted_rows start.replica first last ≡ Ok (u, own.replica) → more ≡ not (set.is_subset own.replica.state.deleted held.replica.state.deleted) → map.len held.replica.state.batches ≤ batch_limit
+    → BringsTo (λ (d : DeletedRows). tt) (λ (d : DeletedRows). d.is_changed) (Ok (record { is_changed = more }, own)) held (rows_brought first last held.replica) (deleted_rows held.replica first last)
+rows_done held start own t first last more u schema new made says limit =
+    let h : Replica = held.replica in
+    let rows : List RowName = rows_between first last in
+    let met = ok_unless (delete_fault first last) (Ok (tt, with_deleted start.replica rows)) (u, own.replica) made in
+    let own_is : with_deleted start.replica rows ≡ own.replica = made_of tt u (with_deleted start.replica rows) own.replica met.1 in
+    let empty : start.replica ≡ empty_replica h.schema = new_is t (record { 0 = 1 }) start.replica new ∙ ap empty_replica schema in
+    let part : with_deleted (empty_replica h.schema) rows ≡ own.replica = ap (λ (r : Replica). with_deleted r rows) (sym empty) ∙ own_is in
+    let whole : with_deleted h rows ≡ with_join h own.replica = sym (join_deleted h rows) ∙ ap (with_join h) part in
+    let told : (r new : Replica) → with_deleted r rows ≡ new → deleted_rows r first last ≡ Ok (tt, new) = λ r new is.
+    ap (λ (o : Option Refusal). unless_fault {X = Unit {0} × Replica} o (Ok (tt, with_deleted r rows))) met.0 ∙ (λ i. let ok : Made (Unit {0}) = Ok (tt, is i) in ok) in (
+      told (empty_replica h.schema) own.replica part,
+      record {
+        joined = told h (with_join h own.replica) whole;
+        more = subst (λ (b : Bool). SaysChange b h (with_join h own.replica)) (sym says) (deletions_say h own.replica (ap (λ (r : Replica). r.state.batches) (sym part)));
+        brought = brought_same held start own (nothing_brought held start t schema new limit) (ap (λ (r : Replica). r.schema) own_is) (ap (λ (r : Replica). r.state.batches) own_is);
       },
     )

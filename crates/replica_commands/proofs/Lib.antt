@@ -14,3 +14,4 @@ pub mod StoreCommands
 pub mod DumpRows
 pub mod RefusedOnFile
 pub mod ReadersInTurn
+pub mod TaggedCommands

@@ -4,11 +4,12 @@ use Rattle.table_model.specs.Reading.{◌>>=◌}
 use Rattle.table_model.specs.State.{empty_state}
 use Rattle.table_model.specs.Table.{Table}
 use Rattle.table_model.specs.declared.names.BatchName.{BatchName}
+use Rattle.table_model.specs.declared.names.RowName.{RowName}
 use Rattle.table_model.specs.declared.refusal.Refusal.{Refusal}
 use Rattle.table_model.specs.declared.refusal.Refusal.TheVariants.{Memory}
 use Rattle.replica_store.specs.Brought.{IsBrought, unheld_state}
 use Rattle.replica_store.specs.Exchange.{OfferForm}
-use Rattle.replica_store.specs.Replica.{Replica, SaysChange, joined_with, with_deleted, with_join}
+use Rattle.replica_store.specs.Replica.{Replica, SaysChange, deleted_rows, joined_with, with_deleted, with_join}
 use Rattle.replica_store.specs.Segments.{StoreForm}
 use Rattle.store_view.specs.Asked.{condition_names}
 use Rattle.replica_commands.specs.Commands.{Made, applying}
@@ -35,6 +36,10 @@ offers_brought offers held = applying offers held >>= λ done. Ok (done.0, broug
 -- how many rows a delete by a condition finds in a replica, and what it brings to it: their deletions
 abbrev pub deletes_brought : List ℕ → Replica → Made ℕ
 deletes_brought text held = condition_names text held.schema held.state >>= λ names. Ok (length names, with_deleted (empty_replica held.schema) names)
+
+-- what a delete of a range of rows brings to a replica: their deletions
+abbrev pub rows_brought : RowName → ℕ → Replica → Made (Unit {0})
+rows_brought first last held = deleted_rows (empty_replica held.schema) first last
 
 -- what an import of a load into a replica answers, and what it brings to it: its batches that the replica does not hold
 abbrev pub load_brought : LoadForm → Option BatchName → List ℕ → Replica → Made Imported

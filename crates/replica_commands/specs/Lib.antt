@@ -1,5 +1,6 @@
 pub mod Commands
 pub mod Brings
+pub mod CommandForms
 pub mod CsvLoads
 pub mod FileLaws
 pub mod ForgetFileLaws

@@ -11,7 +11,7 @@ use table_model::{Counted, Refusal};
 
 /// Writes a store's canonical file if something changed, and else nothing. Refused are `Memory`, before anything is written, and
 /// `WriteFault`, after a front.
-pub(crate) fn write_changed<W: Write>(
+pub fn write_changed<W: Write>(
     alloc: Global,
     store: &Store,
     is_changed: bool,

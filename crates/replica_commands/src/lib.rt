@@ -3,6 +3,7 @@
 
 mod applying;
 mod bringing;
+mod command;
 mod csv_reading;
 mod deleting;
 mod file_writing;
@@ -15,9 +16,11 @@ mod naming;
 mod new_file;
 
 pub use applying::{Applied, apply, apply_all, apply_offers};
-pub use bringing::{bring_deletes, bring_load, bring_offers};
+pub use bringing::{bring, bring_deletes, bring_load, bring_offers};
+pub use command::{Answer, Command};
 pub use csv_reading::read_csv;
 pub use deleting::{Deleted, DeletedRows, delete, delete_rows};
+pub use file_writing::write_changed;
 pub use forgetting::{forget, forget_dead};
 pub use importing::{Imported, import, import_load};
 pub use laws::{drawn_names_are_free, dump_laws, file_laws, forget_file_laws};

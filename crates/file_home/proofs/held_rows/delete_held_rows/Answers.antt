@@ -20,15 +20,15 @@ returns-in_err-old-clause-refused g c =
 
 pub returns-in_err-left-in-Ok-clause-any_moment : goal.returns-in_err-left-in-Ok-clause-any_moment
 returns-in_err-left-in-Ok-clause-any_moment g c =
-    any_at (λ (d : HeldRows). d.is_held) (λ (d : HeldRows). d.is_changed) (λ (r : Replica). deleted_if_held r c.args.first c.args.last) _ _ (longer_is_other _ _ _ _ c.args.place.now.longer refl refl) _ _ _ c.in_ok-old.old.items c.as_slice.result.now c.in-Ok.new.items c.as_slice-in-Ok.result.now c.in_ok-old.ensures.read c.as_slice.ensures.value c.as_slice-in-Ok.ensures.value c.in-Ok.answer c.in-Ok.ensures c.finish.ensures.any_moment
+    any_at (λ (d : HeldRows). d.is_held) (λ (d : HeldRows). d.is_changed) (λ (r : Replica). deleted_if_held r c.args.first c.args.last) _ _ (longer_is_other _ _ _ _ c.args.place.now.longer refl refl) _ _ _ c.in_ok-old.old.items c.in_ok-old.old.items c.in-Ok.new.items c.as_slice.result.now c.in_ok-old.ensures.read refl c.as_slice.ensures.value c.in-Ok.answer c.in-Ok.ensures c.finish.ensures.any_moment
 
 pub returns-in-Ok-clause-any_moment : goal.returns-in-Ok-clause-any_moment
 returns-in-Ok-clause-any_moment g c =
-    any_at (λ (d : HeldRows). d.is_held) (λ (d : HeldRows). d.is_changed) (λ (r : Replica). deleted_if_held r c.args.first c.args.last) _ _ (longer_is_other _ _ _ _ c.args.place.now.longer refl refl) _ _ _ c.in_ok-old.old.items c.as_slice.result.now c.in-Ok.new.items c.as_slice-in-Ok.result.now c.in_ok-old.ensures.read c.as_slice.ensures.value c.as_slice-in-Ok.ensures.value c.in-Ok.answer c.in-Ok.ensures c.finish.ensures.any_moment
+    any_at (λ (d : HeldRows). d.is_held) (λ (d : HeldRows). d.is_changed) (λ (r : Replica). deleted_if_held r c.args.first c.args.last) _ _ (longer_is_other _ _ _ _ c.args.place.now.longer refl refl) _ _ _ c.in_ok-old.old.items c.in_ok-old.old.items c.in-Ok.new.items c.as_slice.result.now c.in_ok-old.ensures.read refl c.as_slice.ensures.value c.in-Ok.answer c.in-Ok.ensures c.finish.ensures.any_moment
 
 pub returns-in-Ok-clause-answered : goal.returns-in-Ok-clause-answered
 returns-in-Ok-clause-answered g c =
-    answered_at (λ (d : HeldRows). d.is_held) (λ (d : HeldRows). d.is_changed) (λ (r : Replica). deleted_if_held r c.args.first c.args.last) _ _ (longer_is_other _ _ _ _ c.args.place.now.longer refl refl) _ _ _ c.in_ok-old.old.items c.as_slice.result.now c.in-Ok.new.items c.as_slice-in-Ok.result.now c.in_ok-old.ensures.read c.as_slice.ensures.value c.as_slice-in-Ok.ensures.value c.in-Ok.answer c.in-Ok.ensures c.in_ok-left-in-Ok.left c.in_ok-left-in-Ok.ensures.finished
+    answered_at (λ (d : HeldRows). d.is_held) (λ (d : HeldRows). d.is_changed) (λ (r : Replica). deleted_if_held r c.args.first c.args.last) _ _ (longer_is_other _ _ _ _ c.args.place.now.longer refl refl) _ _ _ c.in_ok-old.old.items c.in_ok-old.old.items c.in-Ok.new.items c.as_slice.result.now c.in_ok-old.ensures.read refl c.as_slice.ensures.value c.in-Ok.answer c.in-Ok.ensures c.in_ok-left-in-Ok.left c.in_ok-left-in-Ok.ensures.finished
 
 pub returns-clause-any_moment : goal.returns-clause-any_moment
 returns-clause-any_moment g c =
@@ -49,7 +49,7 @@ returns-in_err-left-in-Ok-clause-why g c =
     rw (p.1, p.2) (fault_why _ _ _ _ (λ (r : Replica). deleted_if_held r c.args.first c.args.last) _ _ c.in_ok-old.ensures.read c.in_err-left-in-Ok.ensures.fault.0 c.in_err-left-in-Ok.ensures.fault.2)
 
 pub returns-clause-why : goal.returns-clause-why
-returns-clause-why g c = over_why _ _ _ _ (λ (r : Replica). deleted_if_held r c.args.first c.args.last) _ _ _ _ c.in_ok-old.ensures.read c.as_slice.ensures.value c.leave.ensures.locks.1 c.in-Err.ensures
+returns-clause-why g c = over_why _ _ _ _ (λ (r : Replica). deleted_if_held r c.args.first c.args.last) _ _ _ _ c.in_ok-old.ensures.read refl c.leave.ensures.locks.1 c.in-Err.ensures
 
 pub returns-in_err-old-clause-own : goal.returns-in_err-old-clause-own
 returns-in_err-old-clause-own g c = c.in_err-old.ensures.own
