@@ -100,7 +100,7 @@ pub live-live_rows : (s : State) → live_sum (batch_counts s) ≡ length (live_
 unfolding live_rows
 live-live_rows s = live_of_all s.deleted (map.entries s.batches)
 
-length-named_from : (name : BatchName) (n : ℕ) (rows : Batch) → length (named_from name n rows) ≡ length rows
+pub length-named_from : (name : BatchName) (n : ℕ) (rows : Batch) → length (named_from name n rows) ≡ length rows
 length-named_from name n [] = refl
 length-named_from name n (row ∷ rows) = ap suc (length-named_from name (suc n) rows)
 

@@ -22,8 +22,8 @@ pub(crate) struct BatchCounts {
     pub live: u64,
 }
 
-/// How many of a batch's rows are live, vector by vector.
-fn live_count(tombs: &Tombs, name: BatchName, rows: usize) -> usize
+/// How many rows of a batch with this many rows are live, counted vector by vector.
+pub fn live_count(tombs: &Tombs, name: BatchName, rows: usize) -> usize
     requires { rows ≤ row_limit }
     ensures count { result ≡ count_below (is_live_at tombs.now name rows) rows }
     ensures few { result ≤ rows }

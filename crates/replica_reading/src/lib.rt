@@ -21,6 +21,7 @@ mod store_counts;
 mod stored;
 
 pub use answers::{NotAnswered, answer, answer_all, answer_text};
+pub use batch_counts::live_count;
 pub use batch_list::list_batches;
 pub use dumping::{dump, dump_where};
 pub use exchange::{offer, summary};
