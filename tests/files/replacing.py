@@ -53,7 +53,7 @@ def a_refusal_leaves_the_file_and_no_lock(room):
     room.refused("import", "--no-header", "--batch", "1.1", "t", "-", given=b"1,10\n", line="refused Conflict 1.1", sentence="t: this has batch 1.1 already, with other rows")
     room.refused("import", "--no-header", "--batch", "0.1", "t", "-", given=b"1,10\n", line="refused BadName")
     room.refused("import", "--no-header", "--batch", "1.4294967295", "t", "-", given=rows_text(65_537), line="refused NumbersSpent")
-    room.refused("apply", "t", "-", given=b"junk", line="refused BadMagic", sentence="standard input: the first four bytes are not those of this format")
+    room.refused("apply", "t", "-", given=b"junk", line="refused BadMagic", sentence="standard input: this is a text and no file of lanes: lanes import reads comma-separated values, and lanes run a script")
     room.refused("create", "t", "T", "A", "SMALLINT", line="refused Exists", sentence="t: there is a file of this name already")
     assert room.get("t") == held
     room.only("t")

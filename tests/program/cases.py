@@ -164,7 +164,7 @@ CASES = [
     Case("a fault of the sixth is found", ["merge", "out", "b3", "b1", "b6", "b2", "b5", "b4"], 1, err=b"refused Truncated 41\nb4, byte 41: the bytes end too early\n", files={**EACH_OF_SIX, "b4": ONE_ROW[:41]}, writes={"out": None}),
     Case("what is merged to standard output has nothing behind it", ["merge", "/dev/stdout", "t", "u"], 0, BOTH, files={"t": ONE_ROW, "u": SECOND_BATCH}),
     Case("of three queries each is answered, the last too", ["query", "t", "SELECT SUM(A) FROM T", "SELECT COUNT(*) FROM T", "SELECT MIN(A) N FROM T"], 0, b"SUM(A)\n7\nCOUNT(*)\n1\nN\n7\n", files={"t": ONE_ROW}),
-    Case("a conflict is refused and leaves the file that is there", ["merge", "out", "t", "u"], 1, err=b"refused Conflict 1.1\nu: a file before this one has batch 1.1 with other rows\n", files={"t": ONE_ROW, "u": OTHER_ROW, "out": b"old"}, writes={"out": b"old"}),
+    Case("a conflict is refused and leaves the file that is there", ["merge", "out", "t", "u"], 1, err=b"refused Conflict 1.1\nu: this and t have a batch 1.1, with different rows\n", files={"t": ONE_ROW, "u": OTHER_ROW, "out": b"old"}, writes={"out": b"old"}),
     Case("another table is refused", ["merge", "out", "t", "u"], 1, err=b"refused SchemaDiffers\nu: this holds the table U (A SMALLINT), but t holds T (A SMALLINT)\n", files={"t": ONE_ROW, "u": OTHER_TABLE}, writes={"out": None}),
     Case("a file that isn't there can't be merged", ["merge", "out", "t", "none"], 1, err=b"refused ReadFault\nnone: no such file or folder\n", files={"t": ONE_ROW}, writes={"out": None}),
     Case("a file in a folder that isn't there can't be written", ["merge", "none/out", "t"], 1, err=b"refused WriteFault\nnone/out: there is no such folder\n", files={"t": ONE_ROW}),

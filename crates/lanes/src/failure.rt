@@ -4,7 +4,7 @@ use crate::home::is_folder;
 use crate::watched::Cause;
 use command_line::Fault;
 use refusal_sentences::{
-    CommandRefusal, Knowledge, Pointer, Printable, Sentence, Text, fault_of_table, sentence_of_text,
+    CommandRefusal, Knowledge, Pointer, Sentence, Text, fault_of_table, sentence_of_text,
 };
 use std::alloc::{AllocError, AllocFailed, Global};
 use std::fs::{self, Files};
@@ -24,6 +24,10 @@ const NO_OPTION: &str =
 
 /// What is said of a file that is not made, since a folder has its name.
 const FOLDER_EXISTS: &str = "there is a folder of this name already";
+
+/// What is said of what has the name of a file's lock.
+const IN_THE_WAY: &str =
+    "this is in the way: the lock of the file has this name, and this is no lock that can be taken";
 
 /// Why a command failed, and what is said of it below the line of the refusal.
 #[derive(Drop)]
@@ -62,10 +66,20 @@ impl<T: Drop> From<AllocFailed<T>> for Failure {
 }
 
 impl Failure {
-    /// A refusal with its sentence; without one if there is no memory for it.
-    pub fn new(alloc: Global, sentence: Sentence<'_>) -> Failure {
+    /// A refusal that is said of this subject, with what else is known. It is without a sentence if there is no memory for it.
+    pub fn said_of(
+        alloc: Global,
+        refusal: CommandRefusal,
+        subject: &str,
+        knowledge: Knowledge<'_>,
+    ) -> Failure {
+        let sentence = Sentence {
+            refusal,
+            subject,
+            knowledge,
+        };
         Failure {
-            fault: Fault::from(sentence.refusal),
+            fault: Fault::from(refusal),
             sentence: format!(in alloc; "{sentence}\n").ok(),
             pointer: None,
         }
@@ -73,20 +87,12 @@ impl Failure {
 
     /// A refusal that is said of no input.
     pub fn of(alloc: Global, refusal: CommandRefusal) -> Failure {
-        Failure::new(alloc, Sentence::new(refusal))
+        Failure::said_of(alloc, refusal, "", Knowledge::Nothing)
     }
 
     /// A refusal of an argument, which has no places.
     pub fn of_argument(alloc: Global, refusal: CommandRefusal) -> Failure {
-        let knowledge = Knowledge::Argument;
-        Failure::new(
-            alloc,
-            Sentence {
-                refusal,
-                subject: "",
-                knowledge,
-            },
-        )
+        Failure::said_of(alloc, refusal, "", Knowledge::Argument)
     }
 
     /// A refusal of what is read from a file, or written to it.
@@ -97,14 +103,7 @@ impl Failure {
             CommandRefusal::Exists if is_folder(rt, name) => Knowledge::Advice(FOLDER_EXISTS),
             _ => Knowledge::Nothing,
         };
-        Failure::new(
-            rt.alloc(),
-            Sentence {
-                refusal,
-                subject: name,
-                knowledge,
-            },
-        )
+        Failure::said_of(rt.alloc(), refusal, name, knowledge)
     }
 
     /// A refusal of a file that was read and begins with these bytes: they tell of which kind it is.
@@ -124,67 +123,52 @@ impl Failure {
 
     /// A refusal of an input of another kind, which begins with these bytes.
     pub fn of_beginning(alloc: Global, name: &str, beginning: &[u8]) -> Failure {
-        let sentence = Sentence {
-            refusal: CommandRefusal::from(Refusal::BadMagic),
-            subject: name,
-            knowledge: Knowledge::Beginning(beginning),
-        };
-        Failure::new(alloc, sentence)
+        Failure::said_of(
+            alloc,
+            CommandRefusal::from(Refusal::BadMagic),
+            name,
+            Knowledge::Beginning(beginning),
+        )
+    }
+
+    /// A refusal of what was read from standard input, which begins with these bytes.
+    pub fn of_standard_input(alloc: Global, refusal: CommandRefusal, beginning: &[u8]) -> Failure {
+        Failure::said_of(alloc, refusal, INPUT, Knowledge::Beginning(beginning))
     }
 
     /// A refusal of batches that a file or a folder has already, with other rows.
     pub fn of_held(alloc: Global, refusal: CommandRefusal, name: &str) -> Failure {
-        let sentence = Sentence {
-            refusal,
-            subject: name,
-            knowledge: Knowledge::Held,
-        };
-        Failure::new(alloc, sentence)
+        Failure::said_of(alloc, refusal, name, Knowledge::Held)
     }
 
     /// A refusal of a batch that an input has, and one before it with other rows.
     pub fn of_both(alloc: Global, refusal: CommandRefusal, name: &str, other: &str) -> Failure {
-        let sentence = Sentence {
-            refusal,
-            subject: name,
-            knowledge: Knowledge::Other(other),
-        };
-        Failure::new(alloc, sentence)
+        Failure::said_of(alloc, refusal, name, Knowledge::Other(other))
     }
 
     /// A refusal of a file or a folder that the system does not read or write, for this reason.
     pub fn of_reason(alloc: Global, refusal: Refusal, subject: &str, kind: ErrorKind) -> Failure {
-        if kind == ErrorKind::OutOfMemory {
-            return Failure::of(alloc, CommandRefusal::from(Refusal::Memory));
-        }
-        let sentence = Sentence {
-            refusal: CommandRefusal::from(refusal),
-            subject,
-            knowledge: Knowledge::Reason(kind),
+        let refusal = match kind {
+            ErrorKind::OutOfMemory => Refusal::Memory,
+            _ => refusal,
         };
-        Failure::new(alloc, sentence)
+        Failure::said_of(
+            alloc,
+            CommandRefusal::from(refusal),
+            subject,
+            Knowledge::Reason(kind),
+        )
     }
 
     /// A refusal of a file or a folder, with these words.
     pub fn advised(alloc: Global, refusal: CommandRefusal, subject: &str, words: &str) -> Failure {
-        let sentence = Sentence {
-            refusal,
-            subject,
-            knowledge: Knowledge::Advice(words),
-        };
-        Failure::new(alloc, sentence)
+        Failure::said_of(alloc, refusal, subject, Knowledge::Advice(words))
     }
 
     /// A failed write, since what has the name of a file's lock is no lock that can be taken.
     pub fn of_lock(alloc: Global, lock: &str) -> Failure {
-        let name = Printable(lock);
-        Failure {
-            fault: Fault::from(Refusal::WriteFault),
-            sentence: format!(in alloc;
-                "{name}: this is in the way: the lock of the file has this name, and this is no lock that can be taken\n"
-            ).ok(),
-            pointer: None,
-        }
+        let refusal = CommandRefusal::from(Refusal::WriteFault);
+        Failure::advised(alloc, refusal, lock, IN_THE_WAY)
     }
 
     /// A refusal of what goes to standard output.
@@ -193,12 +177,12 @@ impl Failure {
             Some(kind) => Knowledge::Reason(kind),
             None => Knowledge::Nothing,
         };
-        let sentence = Sentence {
-            refusal: CommandRefusal::from(cause.refusal),
-            subject: OUTPUT,
+        Failure::said_of(
+            alloc,
+            CommandRefusal::from(cause.refusal),
+            OUTPUT,
             knowledge,
-        };
-        Failure::new(alloc, sentence)
+        )
     }
 
     /// A refusal of an input of one table, since a file has another one.
@@ -209,20 +193,16 @@ impl Failure {
         of: &str,
         wanted: &Schema,
     ) -> Failure {
-        let sentence = Sentence {
-            refusal: CommandRefusal::from(Refusal::SchemaDiffers),
+        Failure::said_of(
+            alloc,
+            CommandRefusal::from(Refusal::SchemaDiffers),
             subject,
-            knowledge: Knowledge::Tables { found, wanted, of },
-        };
-        Failure::new(alloc, sentence)
+            Knowledge::Tables { found, wanted, of },
+        )
     }
 
     /// A refusal of a text, which it may have a place in: that is shown at a terminal.
     pub fn of_text(alloc: Global, refusal: Refusal, subject: &str, text: Text<'_>) -> Failure {
-        let pointer = match Pointer::new(text.text, refusal) {
-            Some(pointer) => format!(in alloc; "{pointer}").ok(),
-            None => None,
-        };
         let sentence = match sentence_of_text(alloc, refusal, subject, text) {
             Ok(sentence) => format!(in alloc; "{sentence}\n").ok(),
             Err(_) => None,
@@ -230,7 +210,7 @@ impl Failure {
         Failure {
             fault: Fault::from(refusal),
             sentence,
-            pointer,
+            pointer: pointer_at(alloc, text.text, refusal),
         }
     }
 
@@ -241,11 +221,7 @@ impl Failure {
             Some(fault) => Knowledge::NoTable(fault),
             None => Knowledge::Nothing,
         };
-        let sentence = Sentence {
-            knowledge,
-            ..Sentence::new(refusal)
-        };
-        Failure::new(alloc, sentence)
+        Failure::said_of(alloc, refusal, "", knowledge)
     }
 
     /// A refusal of the name that begins at a byte of a list of columns, which was given with an option.
@@ -253,18 +229,10 @@ impl Failure {
         let rest = usize::try_from(at).ok().and_then(|at| list.get(at..));
         let name = rest.unwrap_or(list).split(',').next().unwrap_or(list);
         let refusal = Refusal::NoSuchColumn(at);
-        let sentence = Sentence {
-            refusal: CommandRefusal::from(refusal),
-            subject: option,
-            knowledge: Knowledge::Name { name, schema },
-        };
-        let pointer = match Pointer::new(list, refusal) {
-            Some(pointer) => format!(in alloc; "{pointer}").ok(),
-            None => None,
-        };
+        let knowledge = Knowledge::Name { name, schema };
         Failure {
-            pointer,
-            ..Failure::new(alloc, sentence)
+            pointer: pointer_at(alloc, list, refusal),
+            ..Failure::said_of(alloc, CommandRefusal::from(refusal), option, knowledge)
         }
     }
 
@@ -297,11 +265,27 @@ impl Failure {
             CommandRefusal::Named(Refusal::Conflict(_)) => {
                 Failure::of_held(rt.alloc(), refusal, name)
             }
-            CommandRefusal::Named(
-                Refusal::BadName | Refusal::BadSchema | Refusal::NumbersSpent | Refusal::Memory,
-            ) => Failure::of(rt.alloc(), refusal),
+            CommandRefusal::Named(Refusal::BadName | Refusal::BadSchema | Refusal::NumbersSpent) =>
+                Failure::of(rt.alloc(), refusal),
             _ => Failure::of_file(rt, refusal, name),
         }
+    }
+
+    /// The failure. If it is that memory ran out, and nothing is said of that yet, it is said of this name, which the command is about.
+    pub fn about(self, alloc: Global, name: &str) -> Failure {
+        if self.sentence.is_some() || !self.is_of_memory() {
+            return self;
+        }
+        let refusal = CommandRefusal::from(Refusal::Memory);
+        Failure::said_of(alloc, refusal, name, Knowledge::Nothing)
+    }
+
+    /// Whether memory ran out.
+    fn is_of_memory(&self) -> bool {
+        matches!(
+            &self.fault,
+            Fault::Refused(CommandRefusal::Named(Refusal::Memory))
+        )
     }
 
     /// Reports the failure, and answers the status that it ends with. If standard error is no terminal, the place in a text isn't
@@ -322,6 +306,14 @@ impl Failure {
             }
         }
         status
+    }
+}
+
+/// What points at the place of a refusal in a text, if it has one.
+fn pointer_at(alloc: Global, text: &str, refusal: Refusal) -> Option<String> {
+    match Pointer::new(text, refusal) {
+        Some(pointer) => format!(in alloc; "{pointer}").ok(),
+        None => None,
     }
 }
 

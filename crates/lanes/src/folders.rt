@@ -332,8 +332,7 @@ fn heads_of<R: Files<File = File> + AllocGlobal>(
 /// The refusal of the part of this path, whose head is at fault. If its bytes are not those of its name, it is damaged.
 fn of_head<R: Files + AllocGlobal>(rt: &R, path: &str, why: HeadFault) -> Failure {
     match why.refusal {
-        Refusal::Memory => Failure::of(rt.alloc(), CommandRefusal::from(Refusal::Memory)),
-        refusal if refusal != Refusal::ReadFault && is_damaged(rt, path) => {
+        refusal if is_of_bytes(refusal) && is_damaged(rt, path) => {
             Failure::of_file(rt, CommandRefusal::Damaged, path)
         }
         refusal => {
@@ -341,6 +340,11 @@ fn of_head<R: Files + AllocGlobal>(rt: &R, path: &str, why: HeadFault) -> Failur
             Failure::of_input(rt, CommandRefusal::from(refusal), path, beginning)
         }
     }
+}
+
+/// Whether a refusal is one of an input's bytes, which were read.
+fn is_of_bytes(refusal: Refusal) -> bool {
+    !matches!(refusal, Refusal::ReadFault | Refusal::Memory)
 }
 
 /// The refusal of the part of a path, whose table is another one than that of the first. If the bytes of one of the two are not those of

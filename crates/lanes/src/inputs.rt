@@ -1,6 +1,6 @@
 //! What commands read: files that are opened at the first read, and standard input.
 
-use crate::beginning::Beginning;
+use crate::beginning::Begun;
 use crate::failure::{Failure, INPUT};
 use crate::folders::{Opened, open_folder};
 use crate::front::read_front;
@@ -11,7 +11,7 @@ use crate::progress::{Progress, Told};
 use command_line::Source;
 use either::Either;
 use folder_home::HEAD_BYTES;
-use refusal_sentences::{CommandRefusal, Sentence};
+use refusal_sentences::CommandRefusal;
 use replica_commands::file_schema;
 use replica_reading::OpenFile;
 use std::fs::{self, Files};
@@ -19,14 +19,13 @@ use std::io::{self, Read};
 use std::rt::Clock;
 use table_model::{Counted, Refusal, Schema};
 
-/// A file that is opened at the first read and closed at its end, and what it begins with.
+/// A file that is opened at the first read and closed at its end.
 #[derive(Drop)]
 pub struct LazyFile<'r, 'n, R: Files> {
     rt: &'r R,
     name: &'n str,
     file: Option<R::File>,
     is_begun: bool,
-    beginning: Beginning,
 }
 
 impl<'r, 'n, R: Files> LazyFile<'r, 'n, R> {
@@ -37,13 +36,7 @@ impl<'r, 'n, R: Files> LazyFile<'r, 'n, R> {
             name,
             file: None,
             is_begun: false,
-            beginning: Beginning::new(),
         }
-    }
-
-    /// What it begins with, as far as it was read.
-    pub fn beginning(&self) -> &[u8] {
-        self.beginning.as_slice()
     }
 
     /// Opens the file, if no read has begun.
@@ -63,7 +56,6 @@ impl<'r, 'n, R: Files> Read for LazyFile<'r, 'n, R> {
             return Ok(0);
         };
         let count = file.read(buffer)?;
-        self.beginning.add(buffer.get(..count).unwrap_or(&[]));
         if count == 0 && !buffer.is_empty() {
             self.file = None;
         }
@@ -71,17 +63,20 @@ impl<'r, 'n, R: Files> Read for LazyFile<'r, 'n, R> {
     }
 }
 
-/// A file, as a reader that counts its failures.
-pub fn reader_of<'r, 'n, R: Files>(rt: &'r R, name: &'n str) -> Counted<LazyFile<'r, 'n, R>> {
-    Counted::new(LazyFile::new(rt, name))
+/// A file, as a reader that counts its failures and knows what it began with.
+pub fn reader_of<'r, 'n, R: Files>(
+    rt: &'r R,
+    name: &'n str,
+) -> Counted<Begun<LazyFile<'r, 'n, R>>> {
+    Counted::new(Begun::new(LazyFile::new(rt, name)))
 }
 
-/// A reader of a source that counts its failures and says how far it is.
+/// A reader of a source that counts its failures, says how far it is, and knows what it began with.
 pub type SourceReader<'r, 'n, R> = Counted<
-    Told<'r, 'n, R, Either<<R as Input>::Reader, LazyFile<'r, 'n, R>>>,
+    Told<'r, 'n, R, Begun<Either<<R as Input>::Reader, LazyFile<'r, 'n, R>>>>,
 >;
 
-/// A source, as a reader that counts its failures and says how far it is.
+/// A source, as such a reader.
 pub fn source_of<'r, 'n, R: Eprint + Input + Files + Clock>(
     rt: &'r R,
     progress: &'r Progress<'r, R>,
@@ -91,7 +86,7 @@ pub fn source_of<'r, 'n, R: Eprint + Input + Files + Clock>(
         Source::Input => Either::Left(rt.reader()),
         Source::File(name) => Either::Right(LazyFile::new(rt, name)),
     };
-    Counted::new(Told::new(progress, source, input))
+    Counted::new(Told::new(progress, source, Begun::new(input)))
 }
 
 /// What a source is called in a sentence.
@@ -109,13 +104,15 @@ pub fn unread_by<R: Host>(
     source: Source<'_>,
     reader: SourceReader<'_, '_, R>,
 ) -> Failure {
-    match reader.into_inner().into_inner() {
-        Either::Left(_input) => unread(rt, refusal, source, &[]),
-        Either::Right(file) => unread(rt, refusal, source, file.beginning()),
-    }
+    unread(
+        rt,
+        refusal,
+        source,
+        reader.into_inner().into_inner().beginning(),
+    )
 }
 
-/// A refusal of what was read from a source. A file begins with these bytes.
+/// A refusal of what was read from a source, which begins with these bytes.
 pub fn unread<R: Files + AllocGlobal>(
     rt: &R,
     refusal: CommandRefusal,
@@ -124,13 +121,32 @@ pub fn unread<R: Files + AllocGlobal>(
 ) -> Failure {
     match source {
         Source::File(name) => Failure::of_input(rt, refusal, name, beginning),
-        Source::Input => Failure::new(
-            rt.alloc(),
-            Sentence {
-                subject: INPUT,
-                ..Sentence::new(refusal)
-            },
-        ),
+        Source::Input => Failure::of_standard_input(rt.alloc(), refusal, beginning),
+    }
+}
+
+/// A refusal of one of some messages, which were read from these sources: its table, if it is known, is another one than that of a file
+/// or a partial answer, which has this name.
+pub fn of_other_table<R: Files + AllocGlobal>(
+    rt: &R,
+    name: &str,
+    wanted: &Schema,
+    found: Option<(usize, &Schema)>,
+    sources: &[Source<'_>],
+) -> Failure {
+    match found {
+        Some((index, found)) => {
+            Failure::of_tables(rt.alloc(), name_at(sources, index), found, name, wanted)
+        }
+        None => Failure::of_file(rt, CommandRefusal::from(Refusal::SchemaDiffers), name),
+    }
+}
+
+/// What a source is called in a sentence, by its index.
+fn name_at<'a>(sources: &[Source<'a>], index: usize) -> &'a str {
+    match sources.get(index) {
+        Some(source) => name_of(*source),
+        None => "",
     }
 }
 
@@ -161,10 +177,10 @@ pub fn schema_ahead<R: Files + AllocGlobal>(rt: &R, file: &str) -> Result<Schema
 pub fn opened<R: Host>(
     rt: &R,
     progress: &Progress<'_, R>,
-    file: &str,
+    name: &str,
 ) -> Result<OpenFile, Failure> {
-    match Home::of(rt, file) {
-        Home::File(file) => opened_file(rt, progress, file),
+    match Home::of(rt, name) {
+        Home::File(file) => opened_source(rt, progress, Source::File(file)),
         Home::Folder(folder) => {
             let opened: Opened<OpenFile> = open_folder(rt, progress, folder)?;
             Ok(opened.held)
@@ -172,33 +188,24 @@ pub fn opened<R: Host>(
     }
 }
 
-/// What a file holds, once all of it was read and judged.
-pub fn opened_file<R: Eprint + Files + Clock + AllocGlobal>(
+/// The same of standard input, or of what has a name.
+pub fn opened_from<R: Host>(
     rt: &R,
     progress: &Progress<'_, R>,
-    file: &str,
+    source: Source<'_>,
 ) -> Result<OpenFile, Failure> {
-    let told = Told::new(progress, Source::File(file), LazyFile::new(rt, file));
-    let mut reader = Counted::new(told);
-    match OpenFile::read(rt.alloc(), &mut reader) {
-        Ok(held) => Ok(held),
-        Err(Refusal::Memory) => Err(Failure::from(Refusal::Memory)),
-        Err(refusal) => {
-            let input = reader.into_inner().into_inner();
-            Err(Failure::of_input(rt, CommandRefusal::from(refusal), file, input.beginning()))
-        }
+    match source {
+        Source::Input => opened_source(rt, progress, source),
+        Source::File(name) => opened(rt, progress, name),
     }
 }
 
-/// The same of a source, which may be standard input.
-pub fn opened_from<'r, R: Host>(
+/// What standard input or a file holds.
+pub fn opened_source<'r, R: Host>(
     rt: &'r R,
     progress: &'r Progress<'r, R>,
     source: Source<'_>,
 ) -> Result<OpenFile, Failure> {
-    if let Source::File(name) = source {
-        return opened(rt, progress, name);
-    }
     let mut reader = source_of(rt, progress, source);
     match OpenFile::read(rt.alloc(), &mut reader) {
         Ok(held) => Ok(held),

@@ -2,9 +2,10 @@
 
 use crate::failure::Failure;
 use crate::folder_reports;
+use crate::folders::{Opened, open_folder};
 use crate::home::Home;
 use crate::host::Host;
-use crate::inputs::{LazyFile, opened};
+use crate::inputs::LazyFile;
 use crate::peeked::Peeked;
 use crate::progress::{Progress, Told};
 use crate::reports::{buffered, flushed, told};
@@ -48,7 +49,7 @@ fn inspect_input<R: Host>(
 ) -> Result<(), Failure> {
     let peeked = Peeked::new(Told::new(progress, Source::File(file), LazyFile::new(rt, file)));
     if has_batches {
-        list(rt, file, peeked, form)
+        list(rt, &open(rt, file, peeked)?, form)
     } else if peeked.front().starts_with(PARTIAL) {
         inspect_partial(rt, file, peeked, form)
     } else if peeked.front().starts_with(SUMMARY) {
@@ -69,10 +70,8 @@ fn inspect_folder<R: Host>(
     if !has_batches {
         return folder_reports::inspect(rt, progress, folder, form);
     }
-    let held = opened(rt, progress, folder)?;
-    let mut writer = buffered(rt)?;
-    let outcome = list_batches(rt.alloc(), &held, form, &mut writer);
-    told(rt, flushed(writer, outcome))
+    let opened: Opened<OpenFile> = open_folder(rt, progress, folder)?;
+    list(rt, &opened.held, form)
 }
 
 /// What a file holds whose first bytes were looked at.
@@ -91,16 +90,10 @@ fn open<R: Files + AllocGlobal, D: Read + Drop>(
     }
 }
 
-/// Writes a list of a file's batches.
-fn list<R: Print + Files + AllocGlobal, D: Read + Drop>(
-    rt: &R,
-    file: &str,
-    reader: Peeked<D>,
-    form: ReportForm,
-) -> Result<(), Failure> {
-    let held = open(rt, file, reader)?;
+/// Writes a list of the batches of a file or a folder.
+fn list<R: Print + AllocGlobal>(rt: &R, held: &OpenFile, form: ReportForm) -> Result<(), Failure> {
     let mut writer = buffered(rt)?;
-    let outcome = list_batches(rt.alloc(), &held, form, &mut writer);
+    let outcome = list_batches(rt.alloc(), held, form, &mut writer);
     told(rt, flushed(writer, outcome))
 }
 

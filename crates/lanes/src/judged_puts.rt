@@ -5,7 +5,7 @@ use crate::folders::{Parts, part_of, parts_of};
 use crate::heads::Heads;
 use crate::host::Host;
 use crate::looks::Looks;
-use crate::part_failures::{Unread, busy, of_folder, path_at, why_unread};
+use crate::part_failures::{Unread, busy, of_folder, of_other_table, path_at, why_unread};
 use crate::parts::Untold;
 use crate::putting::{place, unwritten, written};
 use file_replacing::Replaced;
@@ -105,38 +105,16 @@ fn go_together<R: Files + AllocGlobal>(
         Ok(_store) => return Ok(()),
         Err(refusal) => refusal,
     };
+    let part = refusal.part.saturating_sub(1);
     match refusal.fault {
         PartFault::Refused(Refusal::Conflict(name)) => {
             let refusal = CommandRefusal::from(Refusal::Conflict(name));
             Err(Unread::Refused(Failure::of_held(rt.alloc(), refusal, folder)))
         }
-        fault => {
-            let part = refusal.part.saturating_sub(1);
-            if let Some(failure) = of_other_table(
-                rt,
-                folder,
-                path_at(others, part),
-                fault,
-                &heads,
-            ) {
-                return Err(Unread::Refused(failure));
-            }
-            Err(why_unread(rt, others, readers, PartRefusal { part, fault }, &heads))
+        PartFault::Refused(Refusal::SchemaDiffers) => {
+            let path = path_at(others, part);
+            Err(Unread::Refused(of_other_table(rt, &heads, path, folder)))
         }
+        fault => Err(why_unread(rt, others, readers, PartRefusal { part, fault }, &heads)),
     }
-}
-
-/// The refusal of a part that came to a folder and is of another table than the new part, if it is refused for that.
-fn of_other_table<R: AllocGlobal>(
-    rt: &R,
-    folder: &str,
-    path: &str,
-    fault: PartFault,
-    heads: &Heads,
-) -> Option<Failure> {
-    if fault != PartFault::Refused(Refusal::SchemaDiffers) {
-        return None;
-    }
-    let (found, wanted) = (heads.last_table()?, heads.first_table()?);
-    Some(Failure::of_tables(rt.alloc(), path, &found, folder, &wanted))
 }

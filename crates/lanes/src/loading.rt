@@ -7,7 +7,7 @@ use crate::progress::Progress;
 use crate::whole_lines::LineEnds;
 use command_line::{CsvForm, Source};
 use csv_rows::{CsvError, CsvReader, Dialect, Order, WordError};
-use refusal_sentences::{CommandRefusal, Fields, Knowledge, Sentence, Wanted};
+use refusal_sentences::{CommandRefusal, Fields, Knowledge, Wanted};
 use replica_commands::{Load, read_csv};
 use std::alloc::Global;
 use std::fs::Files;
@@ -149,15 +149,7 @@ fn fault_of_csv(
     refusal: CommandRefusal,
     knowledge: Knowledge<'_>,
 ) -> Failure {
-    let subject = name_of(source);
-    Failure::new(
-        alloc,
-        Sentence {
-            refusal,
-            subject,
-            knowledge,
-        },
-    )
+    Failure::said_of(alloc, refusal, name_of(source), knowledge)
 }
 
 /// What is known of a field that is refused, or of a line with the wrong number of them. A field of the header has no column.

@@ -46,6 +46,7 @@ mod whole_lines;
 use command_line::{Format, Queries, Request};
 use failure::Failure;
 use host::Host;
+use inputs::name_of;
 use progress::Progress;
 use std::io::{IsTerminal, Write};
 use std::process::ExitCode;
@@ -82,9 +83,44 @@ fn run<R: Host + Env, N: Write>(
     let request = command_line::read_request(rt.alloc(), words.as_slice())?;
     let is_told = terminals.errors && is_told(&request, terminals.output);
     let progress = Progress::new(rt, is_told, terminals.input);
+    let name = subject_of(&request);
     let outcome = answer(rt, request, terminals, &progress, notes);
     progress.clear();
-    outcome
+    match outcome {
+        Ok(status) => Ok(status),
+        Err(failure) => Err(failure.about(rt.alloc(), name)),
+    }
+}
+
+/// What a request is about: the file, the folder or the input that it reads or changes; of several partial answers the first.
+fn subject_of<'a>(request: &Request<'a>) -> &'a str {
+    match request {
+        Request::Run { source, .. }
+        | Request::Partial { file: source, .. }
+        | Request::Finish {
+            partial: source,
+            ..
+        } => name_of(*source),
+        Request::Create { file, .. }
+        | Request::Import { file, .. }
+        | Request::Delete { file, .. }
+        | Request::DeleteRows { file, .. }
+        | Request::Forget { file, .. }
+        | Request::Query { file, .. }
+        | Request::Dump { file, .. }
+        | Request::Inspect { file, .. }
+        | Request::Summary { file }
+        | Request::Offer { file, .. }
+        | Request::Apply { file, .. }
+        | Request::Check { file }
+        | Request::Spread { file, .. } => *file,
+        Request::Merge { out, .. } => *out,
+        Request::Pack { folder, .. } => *folder,
+        Request::Combine { partials } => match partials.as_slice().first() {
+            Some(first) => name_of(*first),
+            None => "",
+        },
+    }
 }
 
 /// Whether it is said at a terminal how far the reading is: unless it is to be quiet, or other lines come there meanwhile.

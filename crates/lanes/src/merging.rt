@@ -10,7 +10,7 @@ use crate::host::Host;
 use crate::inputs::LazyFile;
 use crate::looks::Looks;
 use crate::output::{Output, is_special, write_in_place};
-use crate::part_failures::{Unread, path_at, refused as part_refused, unread_for};
+use crate::part_failures::{Unread, path_at, refused, unread_for};
 use crate::progress::{Progress, Told};
 use crate::putting::make_folder;
 use crate::said::say;
@@ -19,7 +19,7 @@ use either::Either;
 use file_home::{Left, merged};
 use folder_home::PartFault;
 use refusal_sentences::CommandRefusal;
-use std::alloc::AllocError;
+use std::alloc::{AllocError, Global};
 use std::fs::{self, Files};
 use std::io::Read;
 use std::os::unix::fs::MetadataExt;
@@ -167,11 +167,11 @@ fn merged_files<R: Host>(
 ) -> Result<Vec<u8>, Failure> {
     let mut looks = Looks::new(rt);
     for _ in 0..u64::MAX {
-        let (inputs, fault) = Inputs::of(rt, sources, looks.is_careful())?;
+        let (inputs, fault) = Inputs::of(rt, names, sources, looks.is_careful())?;
         let outcome = if fault.is_some() && inputs.paths.as_slice().is_empty() {
             Ok(Vec::new(rt.alloc()))
         } else {
-            merged_inputs(rt, &*progress, names, &inputs)
+            merged_inputs(rt, &*progress, &inputs)
         };
         match outcome {
             Ok(bytes) => return told_last(bytes, fault),
@@ -193,54 +193,58 @@ fn told_last(bytes: Vec<u8>, fault: Option<Failure>) -> Result<Vec<u8>, Failure>
     }
 }
 
-/// The inputs of a merge: files, and the parts of folders in their place.
+/// The inputs of a merge: files, and the parts of folders in their place; what each is called in a sentence, and its path.
 #[derive(Drop)]
 struct Inputs {
+    names: Vec<String>,
     paths: Vec<String>,
     are_parts: Vec<bool>,
-    has_folder: bool,
 }
 
 impl Inputs {
-    /// The files of these names, and for each folder among them its parts, up to a folder that can't be listed; and why that can't.
+    /// The files of these names, which are read from these sources, and for each folder among them its parts, up to a folder that can't be
+    /// listed; and why that can't.
     fn of<R: Host>(
         rt: &R,
         names: &[&str],
+        sources: &[&str],
         is_careful: bool,
     ) -> Result<(Inputs, Option<Failure>), Failure> {
         let mut inputs = Inputs {
+            names: Vec::new(rt.alloc()),
             paths: Vec::new(rt.alloc()),
             are_parts: Vec::new(rt.alloc()),
-            has_folder: false,
         };
-        for name in names {
-            match Home::of(rt, *name) {
-                Home::File(file) => inputs.add_file(String::from_str(rt.alloc(), file)?)?,
+        for (name, source) in names.iter().zip(sources.iter()) {
+            match Home::of(rt, *source) {
+                Home::File(file) => inputs.add(rt.alloc(), *name, file, false)?,
                 Home::Folder(folder) => match Parts::listed(rt, folder, is_careful) {
-                    Ok(parts) => inputs.add_parts(parts.into_paths())?,
-                    Err(failure) => {
-                        inputs.has_folder = true;
-                        return Ok((inputs, Some(failure)));
-                    }
+                    Ok(parts) => inputs.add_parts(rt.alloc(), &parts)?,
+                    Err(failure) => return Ok((inputs, Some(failure))),
                 },
             }
         }
         Ok((inputs, None))
     }
 
-    /// Adds a file.
-    fn add_file(&mut self, path: String) -> Result<(), Failure> {
-        self.paths.push(path)?;
-        self.are_parts.push(false)?;
+    /// Adds an input of this name and this path.
+    fn add(
+        &mut self,
+        alloc: Global,
+        name: &str,
+        path: &str,
+        is_part: bool,
+    ) -> Result<(), AllocError> {
+        self.names.push(String::from_str(alloc, name)?)?;
+        self.paths.push(String::from_str(alloc, path)?)?;
+        self.are_parts.push(is_part)?;
         Ok(())
     }
 
     /// Adds the parts of a folder.
-    fn add_parts(&mut self, paths: Vec<String>) -> Result<(), Failure> {
-        self.has_folder = true;
-        for path in paths {
-            self.paths.push(path)?;
-            self.are_parts.push(true)?;
+    fn add_parts(&mut self, alloc: Global, parts: &Parts) -> Result<(), AllocError> {
+        for path in parts.paths() {
+            self.add(alloc, path.as_str(), path.as_str(), true)?;
         }
         Ok(())
     }
@@ -256,7 +260,6 @@ type ToldInput<'r, 'n, 'h, R> = Counted<Told<'r, 'n, R, Headed<'h, Input<'r, 'n,
 fn merged_inputs<'r, R: Eprint + Files + Clock + AllocGlobal>(
     rt: &'r R,
     progress: &'r Progress<'r, R>,
-    names: &[&str],
     inputs: &Inputs,
 ) -> Result<Vec<u8>, Unread> {
     let heads = Heads::new(rt.alloc());
@@ -281,24 +284,16 @@ fn merged_inputs<'r, R: Eprint + Files + Clock + AllocGlobal>(
     };
     let at = heads.begun().saturating_sub(1);
     let paths = inputs.paths.as_slice();
-    match reason_of(readers, at) {
-        Some(PartReason::Unread(kind)) => Err(unread_for(rt, path_at(paths, at), Some(kind))),
-        Some(PartReason::Damaged) => Err(Unread::Refused(part_refused(
+    let fault = match reason_of(readers, at) {
+        Some(PartReason::Unread(kind)) => return Err(unread_for(
             rt,
-            paths,
-            at,
-            PartFault::Damaged,
-            &heads,
-        ))),
-        None if inputs.has_folder => Err(Unread::Refused(part_refused(
-            rt,
-            paths,
-            at,
-            PartFault::Refused(refusal),
-            &heads,
-        ))),
-        None => Err(Unread::Refused(refused(rt, names, at, CommandRefusal::from(refusal), &heads))),
-    }
+            path_at(paths, at),
+            Some(kind),
+        )),
+        Some(PartReason::Damaged) => PartFault::Damaged,
+        None => PartFault::Refused(refusal),
+    };
+    Err(Unread::Refused(refused(rt, inputs.names.as_slice(), at, fault, &heads)))
 }
 
 /// Why nothing was read from the input of an index, if it is a part.
@@ -313,39 +308,5 @@ fn reason_of<R: Eprint + Files + Clock>(
     match input.into_inner() {
         Either::Left(_file) => None,
         Either::Right(part) => part.reason(),
-    }
-}
-
-/// A refusal of a merge's inputs: of the one of this index, which was begun last. The heads are those of the inputs.
-fn refused<R: Files + AllocGlobal>(
-    rt: &R,
-    names: &[&str],
-    at: usize,
-    refusal: CommandRefusal,
-    heads: &Heads,
-) -> Failure {
-    let (Some(first), Some(last)) = (names.first(), names.get(at)) else {
-        return Failure::of(rt.alloc(), refusal);
-    };
-    match refusal {
-        CommandRefusal::Named(Refusal::SchemaDiffers) => {
-            match (heads.last_table(), heads.first_table()) {
-                (Some(found), Some(wanted)) => {
-                    Failure::of_tables(rt.alloc(), *last, &found, *first, &wanted)
-                }
-                _ => Failure::of_file(rt, refusal, *last),
-            }
-        }
-        CommandRefusal::Named(Refusal::Memory) => Failure::of(rt.alloc(), refusal),
-        CommandRefusal::Named(Refusal::Conflict(batch)) => {
-            let words = format!(in rt.alloc();
-                "a file before this one has batch {batch} with other rows"
-            );
-            match words {
-                Ok(words) => Failure::advised(rt.alloc(), refusal, *last, words.as_str()),
-                Err(_) => Failure::of(rt.alloc(), refusal),
-            }
-        }
-        _ => Failure::of_input(rt, refusal, *last, heads.take_last().as_slice()),
     }
 }

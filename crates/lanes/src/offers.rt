@@ -3,13 +3,12 @@
 use crate::failure::Failure;
 use crate::home::is_folder;
 use crate::host::Host;
-use crate::inputs::{SourceReader, name_of, source_of, unread_by};
+use crate::inputs::{SourceReader, source_of, unread_by};
 use crate::progress::Progress;
 use command_line::Source;
 use refusal_sentences::CommandRefusal;
 use replica_store::Offer;
 use std::alloc::{AllocError, Global};
-use std::fs::Files;
 use table_model::{Refusal, Schema};
 
 /// What to do instead of applying a folder.
@@ -91,28 +90,4 @@ fn first_other<'a>(offers: &'a [Offer], wanted: &Schema) -> Option<(usize, &'a S
         }
     }
     None
-}
-
-/// A refusal of an offer of another table, which is one of those that were read from these sources, with both tables.
-pub fn of_other_table<R: Files + AllocGlobal>(
-    rt: &R,
-    file: &str,
-    wanted: &Schema,
-    found: Option<(usize, &Schema)>,
-    sources: &[Source<'_>],
-) -> Failure {
-    match found {
-        Some((index, found)) => {
-            Failure::of_tables(rt.alloc(), name_at(sources, index), found, file, wanted)
-        }
-        None => Failure::of_change(rt, CommandRefusal::from(Refusal::SchemaDiffers), file),
-    }
-}
-
-/// What a source is called in a sentence, by its index.
-fn name_at<'a>(sources: &[Source<'a>], index: usize) -> &'a str {
-    match sources.get(index) {
-        Some(source) => name_of(*source),
-        None => "",
-    }
 }

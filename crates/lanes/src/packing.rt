@@ -7,7 +7,7 @@ use crate::host::Host;
 use crate::part_failures::{Unread, busy, of_folder, why_unread};
 use crate::parts::Untold;
 use crate::replacing::{Round, replace};
-use crate::reports::write_line;
+use crate::said::say_line;
 use folder_home::{PartFault, PartRefusal, packed_prefix};
 use part_folder::{Patience, is_link, sweep};
 use refusal_sentences::CommandRefusal;
@@ -28,11 +28,8 @@ pub fn pack<R: Host>(rt: &R, folder: &str, is_all: bool, is_quiet: bool) -> Resu
     }
     let packed = pack_rounds(rt, folder, is_all)?;
     let parts = Parts::listed(rt, folder, true)?.count();
-    if is_quiet {
-        return Ok(());
-    }
     let line = format!(in rt.alloc(); "ok parts={parts} packed={packed}\n")?;
-    write_line(rt, line.as_bytes())
+    say_line(rt, line.as_str(), is_quiet)
 }
 
 /// Joins parts as long as there are some to be joined, or once all; how many were joined and removed. If another pack or a forget was
@@ -135,10 +132,7 @@ fn joined<R: Files + AllocGlobal>(rt: &R, paths: &[String]) -> Result<Vec<u8>, U
                 fault: PartFault::Refused(Refusal::WriteFault),
                 ..
             },
-        ) => {
-            let refusal = CommandRefusal::from(Refusal::Memory);
-            Err(Unread::Refused(Failure::of(rt.alloc(), refusal)))
-        }
+        ) => { Err(Unread::Refused(Failure::from(Refusal::Memory))) }
         Err(refusal) => Err(why_unread(rt, paths, readers, refusal, &heads)),
     }
 }

@@ -65,7 +65,6 @@ pub fn unread_for<R: Files + AllocGlobal>(rt: &R, path: &str, reason: Option<Err
     match reason {
         Some(ErrorKind::NotFound) if !is_link(rt, path) => Unread::Gone,
         Some(ErrorKind::IsADirectory) => Unread::Folder,
-        Some(ErrorKind::OutOfMemory) => Unread::Refused(Failure::from(Refusal::Memory)),
         Some(kind) => Unread::Refused(Failure::of_reason(rt.alloc(), refusal, path, kind)),
         None => Unread::Refused(Failure::of_file(rt, CommandRefusal::from(refusal), path)),
     }
@@ -84,12 +83,7 @@ pub fn refused<R: Files + AllocGlobal>(
     match fault {
         PartFault::Damaged => Failure::of_file(rt, CommandRefusal::Damaged, path),
         PartFault::Refused(Refusal::SchemaDiffers) => {
-            match (heads.last_table(), heads.first_table()) {
-                (Some(found), Some(wanted)) => {
-                    Failure::of_tables(alloc, path, &found, path_at(paths, 0), &wanted)
-                }
-                _ => Failure::of_file(rt, CommandRefusal::from(Refusal::SchemaDiffers), path),
-            }
+            of_other_table(rt, heads, path, path_at(paths, 0))
         }
         PartFault::Refused(Refusal::Conflict(name)) => {
             let refusal = CommandRefusal::from(Refusal::Conflict(name));
@@ -97,9 +91,6 @@ pub fn refused<R: Files + AllocGlobal>(
                 Some(other) => Failure::of_both(alloc, refusal, path, path_at(paths, other)),
                 None => Failure::of_file(rt, refusal, path),
             }
-        }
-        PartFault::Refused(Refusal::Memory) => {
-            Failure::of(alloc, CommandRefusal::from(Refusal::Memory))
         }
         PartFault::Refused(refusal) => {
             let beginning = heads.take_last();
@@ -110,6 +101,22 @@ pub fn refused<R: Files + AllocGlobal>(
                 beginning.as_slice(),
             )
         }
+    }
+}
+
+/// The refusal of the input that was begun last, which has this name: its table is another one than that of the first, which is the
+/// other name's.
+pub fn of_other_table<R: Files + AllocGlobal>(
+    rt: &R,
+    heads: &Heads,
+    last: &str,
+    first: &str,
+) -> Failure {
+    match (heads.last_table(), heads.first_table()) {
+        (Some(found), Some(wanted)) => {
+            Failure::of_tables(rt.alloc(), last, &found, first, &wanted)
+        }
+        _ => Failure::of_file(rt, CommandRefusal::from(Refusal::SchemaDiffers), last),
     }
 }
 

@@ -1,12 +1,12 @@
 //! Queries over a file: those of the command line, and those of lines of standard input.
 
-use crate::failure::{Failure, INPUT};
+use crate::failure::Failure;
 use crate::host::Host;
 use crate::inputs::opened;
 use crate::progress::Progress;
 use crate::watched::{Cause, Watched};
 use command_line::Format;
-use refusal_sentences::{CommandRefusal, Knowledge, Sentence, Text};
+use refusal_sentences::{CommandRefusal, Knowledge, Text};
 use replica_reading::{Listener, answer_all, answer_lines};
 use std::alloc::Global;
 use std::fmt;
@@ -38,6 +38,7 @@ pub fn answer_texts<R: Host>(
     };
     match writer.into_inner().ended(Err(stopped.refusal)) {
         Ok(()) => Ok(()),
+        Err(cause) if cause.refusal == Refusal::Memory => Err(Failure::from(cause.refusal)),
         Err(cause) => Err(refused_query(rt, query, place, held.schema(), cause)),
     }
 }
@@ -143,11 +144,8 @@ fn refused_line<R: AllocGlobal>(
     refusal: Refusal,
 ) -> Failure {
     if refusal == Refusal::LineTooLong {
-        let sentence = Sentence {
-            knowledge: Knowledge::Line(number),
-            ..Sentence::new(CommandRefusal::from(refusal))
-        };
-        return Failure::new(rt.alloc(), sentence);
+        let knowledge = Knowledge::Line(number);
+        return Failure::said_of(rt.alloc(), CommandRefusal::from(refusal), "", knowledge);
     }
     match str::from_utf8(line) {
         Ok(query) => refused_query(rt, query, Place::Line(number), schema, Cause::from(refusal)),
@@ -159,7 +157,7 @@ fn refused_line<R: AllocGlobal>(
 fn ended<R: AllocGlobal>(rt: &R, cause: Cause) -> Failure {
     match cause.refusal {
         Refusal::WriteFault => Failure::of_output(rt.alloc(), cause),
-        refusal => unread_lines(rt, refusal),
+        refusal => Failure::of_standard_input(rt.alloc(), CommandRefusal::from(refusal), &[]),
     }
 }
 
@@ -169,12 +167,8 @@ fn not_utf8(alloc: Global, number: u64, error: &Utf8Error) -> Failure {
     let Ok(place) = Place::Line(number).to_string(alloc) else {
         return Failure::from(refusal);
     };
-    let sentence = Sentence {
-        refusal: CommandRefusal::from(refusal),
-        subject: place.as_str(),
-        knowledge: Knowledge::Advice("this is not UTF-8"),
-    };
-    Failure::new(alloc, sentence)
+    let words = "this is not UTF-8";
+    Failure::advised(alloc, CommandRefusal::from(refusal), place.as_str(), words)
 }
 
 /// A refusal of a query, which is pointed at.
@@ -199,13 +193,4 @@ fn refused_query<R: AllocGlobal>(
         Err(_) => return Failure::from(refusal),
     };
     Failure::of_text(rt.alloc(), refusal, subject.as_str(), text)
-}
-
-/// A failed read of the lines of standard input.
-fn unread_lines<R: AllocGlobal>(rt: &R, refusal: Refusal) -> Failure {
-    let sentence = Sentence {
-        subject: INPUT,
-        ..Sentence::new(CommandRefusal::from(refusal))
-    };
-    Failure::new(rt.alloc(), sentence)
 }

@@ -4,7 +4,7 @@
 use crate::combined::Combined;
 use crate::failure::Failure;
 use crate::host::Host;
-use crate::inputs::{name_of, opened_from, source_of, unread, unread_by};
+use crate::inputs::{name_of, of_other_table, opened_from, source_of, unread, unread_by};
 use crate::progress::Progress;
 use crate::reports::{buffered, flushed, told};
 use crate::watched::Watched;
@@ -12,11 +12,11 @@ use column_file::read_summary;
 use command_line::{Format, Source, not_for_a_terminal};
 use partial_answers::{PartialAnswer, PartialAnswerFault};
 use partial_commands::{
-    ExpectationError, PartialAnswerError, combine_with, partial_answer_of_store,
-    write_expected_answer, write_finished_answer,
+    ExpectationError, PartialAnswerError, combine_with, write_expected_answer,
+    write_finished_answer, write_partial_answer_of_store,
 };
 use partial_file::{read_partial_answer, write_partial_answer};
-use refusal_sentences::{CommandRefusal, Sentence, Text};
+use refusal_sentences::{CommandRefusal, Knowledge, Text, is_of_a_text};
 use replica_store::Summary;
 use std::io;
 use table_model::{BatchName, Counted, Refusal, Schema};
@@ -36,12 +36,10 @@ pub fn partial<'r, R: Host>(
         return Err(Failure::from(not_for_a_terminal(rt.alloc())));
     }
     let held = opened_from(rt, progress, source)?;
-    match partial_answer_of_store(rt.alloc(), held.store(), sql) {
-        Ok(partial) => write_out(rt, &partial),
-        Err(refusal) => {
-            let schema = held.schema();
-            Err(not_asked(rt, refusal, sql, schema))
-        }
+    let mut writer = buffered(rt)?;
+    match write_partial_answer_of_store(rt.alloc(), held.store(), sql, &mut writer) {
+        Err(refusal) if is_of_a_text(refusal) => { Err(not_asked(rt, refusal, sql, held.schema())) }
+        outcome => told(rt, flushed(writer, outcome)),
     }
 }
 
@@ -171,7 +169,8 @@ fn finish_expected<'r, R: Host>(
             Err(refused(rt, source, fault))
         }
         Err(ExpectationError::SchemaDiffers) => {
-            Err(of_other_table(rt, expected, summaries, name_of(source), &schema))
+            let found = first_other(summaries, &schema);
+            Err(of_other_table(rt, name_of(source), &schema, found, expected))
         }
         Err(ExpectationError::Missing(name)) => Err(missing(rt, expected, summaries, name)),
     }
@@ -196,20 +195,14 @@ fn read_summaries<'r, R: Host>(
     Ok(summaries)
 }
 
-/// Why a partial answer of a table is not finished: the first of these summaries that is of another one.
-fn of_other_table<R: AllocGlobal>(
-    rt: &R,
-    sources: &[Source<'_>],
-    summaries: &[Summary],
-    of: &str,
-    schema: &Schema,
-) -> Failure {
-    for (source, summary) in sources.iter().zip(summaries) {
-        if !summary.schema().same(schema) {
-            return Failure::of_tables(rt.alloc(), name_of(*source), summary.schema(), of, schema);
+/// The first of these summaries that is of another table than this one, by its index and its table.
+fn first_other<'a>(summaries: &'a [Summary], wanted: &Schema) -> Option<(usize, &'a Schema)> {
+    for (index, summary) in summaries.iter().enumerate() {
+        if !summary.schema().same(wanted) {
+            return Some((index, summary.schema()));
         }
     }
-    Failure::from(Refusal::SchemaDiffers)
+    None
 }
 
 /// Why a partial answer is not finished: a batch is missing, which the first of these summaries that has it names.
@@ -222,11 +215,8 @@ fn missing<R: AllocGlobal>(
     let refusal = CommandRefusal::Missing(name);
     for (source, summary) in sources.iter().zip(summaries) {
         if summary.names().holds(name) {
-            let sentence = Sentence {
-                subject: name_of(*source),
-                ..Sentence::new(refusal)
-            };
-            return Failure::new(rt.alloc(), sentence);
+            let name = name_of(*source);
+            return Failure::said_of(rt.alloc(), refusal, name, Knowledge::Nothing);
         }
     }
     Failure::of(rt.alloc(), refusal)
@@ -254,20 +244,9 @@ fn refusal_of(fault: PartialAnswerFault) -> CommandRefusal {
 /// Why a partial answer is not combined or finished.
 fn refused<R: AllocGlobal>(rt: &R, source: Source<'_>, fault: PartialAnswerFault) -> Failure {
     let refusal = refusal_of(fault);
+    let name = name_of(source);
     match fault {
-        PartialAnswerFault::Memory => Failure::of(rt.alloc(), refusal),
-        PartialAnswerFault::Query(_) => Failure::advised(
-            rt.alloc(),
-            refusal,
-            name_of(source),
-            NO_QUERY,
-        ),
-        _ => {
-            let sentence = Sentence {
-                subject: name_of(source),
-                ..Sentence::new(refusal)
-            };
-            Failure::new(rt.alloc(), sentence)
-        }
+        PartialAnswerFault::Query(_) => Failure::advised(rt.alloc(), refusal, name, NO_QUERY),
+        _ => Failure::said_of(rt.alloc(), refusal, name, Knowledge::Nothing),
     }
 }

@@ -4,7 +4,7 @@ use crate::failure::Failure;
 use crate::folder_reports;
 use crate::home::Home;
 use crate::host::Host;
-use crate::inputs::{name_of, opened, opened_file, source_of, unread_by};
+use crate::inputs::{name_of, opened, opened_source, source_of, unread_by};
 use crate::progress::Progress;
 use crate::watched::{Cause, Watched};
 use command_line::{Source, not_for_a_terminal};
@@ -34,7 +34,7 @@ pub fn check<R: Host>(rt: &R, progress: &Progress<'_, R>, file: &str) -> Result<
 
 /// The same of a file.
 fn check_file<R: Host>(rt: &R, progress: &Progress<'_, R>, file: &str) -> Result<(), Failure> {
-    let held = opened_file(rt, progress, file)?;
+    let held = opened_source(rt, progress, Source::File(file))?;
     let mut writer = Counted::new(Watched::new(io::writer(rt)));
     let outcome = replica_reading::check(rt.alloc(), &held, &mut writer);
     told(rt, writer.into_inner().ended(outcome))
@@ -161,6 +161,6 @@ pub fn told<R: AllocGlobal>(rt: &R, outcome: Result<(), Cause>) -> Result<(), Fa
         Err(cause) if cause.refusal == Refusal::WriteFault => {
             Err(Failure::of_output(rt.alloc(), cause))
         }
-        Err(cause) => Err(Failure::of(rt.alloc(), CommandRefusal::from(cause.refusal))),
+        Err(cause) => Err(Failure::from(cause.refusal)),
     }
 }

@@ -16,13 +16,17 @@ pub fn say<R: Print + Eprint + AllocGlobal>(
     is_quiet: bool,
 ) -> Result<(), Failure> {
     let line = format!(in rt.alloc(); "{done}\n")?;
-    let told = if is_quiet {
-        Ok(())
-    } else {
-        write_line(rt, line.as_bytes())
-    };
+    let told = say_line(rt, line.as_str(), is_quiet);
     say_left(rt, home, done.left());
     told
+}
+
+/// Says a line of what was done, unless that is to be quiet.
+pub fn say_line<R: Print + AllocGlobal>(rt: &R, line: &str, is_quiet: bool) -> Result<(), Failure> {
+    if is_quiet {
+        return Ok(());
+    }
+    write_line(rt, line.as_bytes())
 }
 
 /// Says on standard error what could not be synced, if there is such.

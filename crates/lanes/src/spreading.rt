@@ -6,8 +6,7 @@ use crate::host::Host;
 use crate::inputs::opened;
 use crate::progress::Progress;
 use crate::putting::make_folder;
-use crate::reports::write_line;
-use crate::said::say_left;
+use crate::said::{say_left, say_line};
 use crate::unwritten::{not_written, unlocked};
 use crate::watched_folder::WatchedFolder;
 use file_home::{Left, put};
@@ -52,10 +51,7 @@ pub fn spread<R: Host>(
             }
         }
     }
-    if is_quiet {
-        return Ok(());
-    }
-    write_line(rt, line.as_bytes())
+    say_line(rt, line.as_str(), is_quiet)
 }
 
 /// Refuses the first output that is there already, or that was named before under this name or another one.

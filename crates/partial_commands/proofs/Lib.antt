@@ -1,6 +1,6 @@
 pub mod StrayNames
 pub mod StorePartialAnswers
-pub mod FileSteps
+pub mod WritingSteps
 pub mod PartialAnswersAgain
 pub mod PartialAnswerTurns
 pub mod Trees

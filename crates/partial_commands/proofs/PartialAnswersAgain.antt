@@ -1,11 +1,12 @@
--- The bytes that were written of a file's partial answer are read as a partial answer that means the same.
+-- The bytes that were written of a state's partial answer are read as a partial answer that means the same.
 use Rattle.std.specs.Prelude.{◌≡◌, ℕ, true, List, [], ◌∷◌, ◌++◌, map as each, Some, Result, Ok}
 use Rattle.std.proofs.Common.{refl, sym, ap, ◌∙◌}
 use Rattle.std.specs.FinMap as map
 use Rattle.std.specs.Global.{Vec}
 use Rattle.std.specs.String.{string_bytes}
 use Rattle.table_model.specs.Reading.{◌>>=◌}
-use Rattle.table_model.specs.State.{Cells}
+use Rattle.table_model.specs.State.{Cells, State}
+use Rattle.table_model.specs.Table.{Table}
 use Rattle.table_model.specs.declared.refusal.Refusal.{Refusal}
 use Rattle.partial_answers.specs.Groups.{partial_answer_in}
 use Rattle.partial_answers.specs.Kept.{tallies_in}
@@ -15,8 +16,8 @@ use Rattle.partial_answers.specs.declared.partial_answer.PartialAnswer.{PartialA
 use Rattle.partial_file.specs.PartialAnswerBytes.{entry_of, partial_answer_bytes}
 use Rattle.partial_file.specs.PartialAnswerReading.{PartialAnswerForm, form_of, has_bytes}
 use Rattle.partial_file.proofs.PartialAnswersRead.{partial_answers_are_read_again}
-use Rattle.partial_commands.specs.FilePartialAnswers.{WritesFilePartialAnswer, file_partial_answer, meaning_in, meaning_read, tallied}
-use Rattle.partial_commands.specs.StorePartialAnswer.{PartialAnswerMeaning, meaning_of}
+use Rattle.partial_commands.specs.PartialAnswerWriting.{WritesPartialAnswer, meaning_in, meaning_read, tallied}
+use Rattle.partial_commands.specs.StorePartialAnswer.{PartialAnswerMeaning, meaning_of, query_partial_answer}
 
 tallies_are : (es : List (Cells × Vec Kept)) → each tallied (each entry_of es) ≡ each (λ (e : Cells × Vec Kept). (e.0, tallies_in e.1.items)) es
 tallies_are [] = refl
@@ -34,5 +35,6 @@ again p has =
     let done : PartialAnswerMeaning → Result PartialAnswerMeaning Refusal = λ m. Ok m in
     ap (λ (x : Result PartialAnswerForm Refusal). x >>= λ f. done (meaning_in f)) (partial_answers_are_read_again p has) ∙ ap done (meaning_is p)
 
-pub read_again : (text input start now : List ℕ) → WritesFilePartialAnswer (Ok tt) (Some input) (Some start) (Some now) text → (bytes : List ℕ) × (now ≡ start ++ bytes) × (meaning_read bytes ≡ file_partial_answer text input)
-read_again text input start now wrote = (partial_answer_bytes wrote.0, wrote.2, again wrote.0 wrote.3 ∙ sym wrote.1)
+pub read_again : (text : List ℕ) (table : Table) (s : State) (start now : List ℕ) → WritesPartialAnswer (Ok tt) (Some start) (Some now) (query_partial_answer text table s)
+    → (bytes : List ℕ) × (now ≡ start ++ bytes) × (meaning_read bytes ≡ query_partial_answer text table s)
+read_again text table s start now wrote = (partial_answer_bytes wrote.0, wrote.2, again wrote.0 wrote.3 ∙ sym wrote.1)

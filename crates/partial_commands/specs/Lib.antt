@@ -1,5 +1,5 @@
 pub mod StorePartialAnswer
-pub mod FilePartialAnswers
+pub mod PartialAnswerWriting
 pub mod PartialAnswerTurns
 pub mod PartialCommandLaws
 pub mod Coverage
