@@ -1,0 +1,4 @@
+pub mod Passed
+pub mod PassedAsRead
+pub mod NamesInOrder
+pub mod SkimmedAsRead
