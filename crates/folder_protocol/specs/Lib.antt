@@ -3,3 +3,4 @@ pub mod Reads
 pub mod Causes
 pub mod Note
 pub mod Keeping
+pub mod Taking
