@@ -1,7 +1,7 @@
 -- How a run goes over the calls that were told.
-use Rattle.std.proofs.Common.{◌≡◌, refl, sym, ◌∙◌, ap, subst, ℕ, ◌+◌, ◌<◌, ◌≤◌, Bool, true, false, leb, if◌then◌else◌, List, [], ◌∷◌, ◌++◌, length, take, map, get_or}
+use Rattle.std.proofs.Common.{◌≡◌, refl, sym, ◌∙◌, ap, subst, ℕ, ◌+◌, ◌<◌, ◌≤◌, Bool, true, false, leb, if◌then◌else◌, List, [], ◌∷◌, ◌++◌, length, take, map, get_or, Option, Some, MatchOption, option_map}
 use Rattle.std.specs.List.{AllZip}
-use Rattle.std.proofs.lemmas.List.{take_more, take_all}
+use Rattle.std.proofs.lemmas.List.{append_assoc, append-nil, take_more, take_all}
 use Rattle.folder_history.specs.Call.{Call, Made, Wrote, Synced, Linked, Removed, Settled, Locked, Unlocked, Began, Listed, Read}
 use Rattle.folder_history.specs.Parts.{Parts}
 use Rattle.folder_history.specs.Turn.{InTurn, AllInTurn}
@@ -51,6 +51,7 @@ module _ (parts : Parts) where
   wrote_whatever : (bytes : List ℕ) (h : List Call) (answer : Answer) → InTurn parts h (Wrote bytes false) → InTurn parts h (write_of bytes answer)
   wrote_whatever bytes h (answers.Wrote count) turn = wrote_either (leb count (length bytes)) (take count bytes) bytes h turn
   wrote_whatever bytes h answers.Failed turn = turn
+  wrote_whatever bytes h (answers.FailedBy code) turn = turn
   wrote_whatever bytes h answers.Done turn = turn
   wrote_whatever bytes h answers.Taken turn = turn
   wrote_whatever bytes h (answers.Listed names) turn = turn
@@ -89,3 +90,25 @@ module _ (parts : Parts) where
       → AllInTurn parts (answered (call_asked whole request) answer ++ calls_after whole ts before) → AllInTurn parts (calls_after whole (ts ++ record { request = request; answer = answer } ∷ []) before)
   told_in_turn whole ts before request answer all =
       subst (λ (l : List Call). AllInTurn parts l) (sym (told_more whole ts (record { request = request; answer = answer }) before)) all
+
+-- the calls told come after those before
+pub after_all : (whole : List ℕ) (ts : List Told) (before : List Call) → calls_after whole ts before ≡ calls_after whole ts [] ++ before
+after_all whole [] before = refl
+after_all whole (t ∷ ts) before = let one = answered (call_asked whole t.request) t.answer in
+    after_all whole ts (one ++ before)
+    ∙ sym (append_assoc (calls_after whole ts []) one before)
+    ∙ ap (λ (l : List Call). l ++ before) (sym (after_all whole ts one) ∙ ap (λ (l : List Call). calls_after whole ts l) (sym (append-nil one)))
+
+-- one call more was told, which was asked for
+pub told_asked : (whole : List ℕ) (ts items : List Told) (asked : Option Request) (request : Request) (answer : Answer)
+    → asked ≡ Some request → items ≡ ts ++ record { request = request; answer = answer } ∷ []
+    → MatchOption (option_map (call_asked whole) asked) (calls_after whole items [] ≡ calls_after whole ts []) (λ call. calls_after whole items [] ≡ answered call answer ++ calls_after whole ts [])
+told_asked whole ts items asked request answer is grown =
+    let P : Option Request → Type 0 = λ some. MatchOption (option_map (call_asked whole) some) (calls_after whole items [] ≡ calls_after whole ts []) (λ call. calls_after whole items [] ≡ answered call answer ++ calls_after whole ts []) in
+    subst P (sym is) (ap (λ (l : List Told). calls_after whole l []) grown ∙ told_more whole ts (record { request = request; answer = answer }) [])
+
+-- what holds of all calls holds of those told, after those before
+pub holds_after : (P : List ℕ → List Call → Type 0) (w whole : List ℕ) (us ts : List Told) (before : List Call) → w ≡ whole → us ≡ ts → P w (calls_after w us before) → P whole (calls_after whole ts [] ++ before)
+holds_after P w whole us ts before same_whole same_told holds =
+    subst (λ (v : List ℕ). P v (calls_after v ts [] ++ before)) same_whole
+    (subst (λ (vs : List Told). P w (calls_after w vs [] ++ before)) same_told (subst (P w) (after_all w us before) holds))

@@ -8,9 +8,12 @@ use crate::request::Answer;
 use std::alloc::{AllocError, Global};
 use std::io::{self, ErrorKind};
 
-/// The error of each call that has failed, or was not made.
-pub fn failed() -> io::Error {
-    io::Error::from(ErrorKind::Other)
+/// The error of a call that has failed, by what was told of it, or was not made.
+pub fn error_of(answer: Option<&Answer>) -> io::Error {
+    match answer {
+        Some(Answer::FailedBy { code }) => io::Error::from_raw_os_error(*code),
+        _ => io::Error::from(ErrorKind::Other),
+    }
 }
 
 /// A call that gives nothing.
@@ -19,7 +22,7 @@ pub fn done(answer: Option<&Answer>) -> io::Result<()>
 {
     match answer {
         Some(Answer::Done) => Ok(()),
-        _ => Err(failed()),
+        _ => Err(error_of(answer)),
     }
 }
 
@@ -31,7 +34,7 @@ pub fn written(answer: Option<&Answer>, bytes: &[u8]) -> io::Result<usize>
 {
     match answer {
         Some(Answer::Wrote { count }) if *count <= bytes.len() => Ok(*count),
-        _ => Err(failed()),
+        _ => Err(error_of(answer)),
     }
 }
 
@@ -43,7 +46,7 @@ pub fn linked(answer: Option<&Answer>) -> io::Result<bool>
     match answer {
         Some(Answer::Done) => Ok(true),
         Some(Answer::Taken) => Ok(false),
-        _ => Err(failed()),
+        _ => Err(error_of(answer)),
     }
 }
 

@@ -4,17 +4,21 @@
 
 mod answering;
 mod asking;
+mod order;
 mod program;
 mod programs;
 mod replay;
 mod request;
 mod script;
 mod step;
+mod turn;
 mod wanted;
 
 pub use asking::next;
+pub use order::{End, Order, Task};
 pub use program::Program;
 pub use programs::{Keeping, Putting, Reading, Removing, Replacing};
 pub use replay::Fault;
 pub use request::{Answer, Request, Told};
 pub use step::Step;
+pub use turn::Turn;

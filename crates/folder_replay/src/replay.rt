@@ -4,7 +4,7 @@ ghost use Rattle.std.specs.Coded.{Coded-set, coded_list};
 ghost use Rattle.folder_replay.specs.Coding.{coded_call};
 ghost use Rattle.folder_replay.specs.Calls.{calls_after};
 
-use crate::answering::{done, failed, linked, listed, read, written};
+use crate::answering::{done, error_of, linked, listed, read, written};
 use crate::request::{Answer, Request, Told};
 use crate::script::Script;
 use crate::step::Step;
@@ -199,7 +199,7 @@ impl<'a, S: Script> Folder for Replay<'a, S> {
             Some(answer) => answer,
             None => {
                 self.halt(Wanted::ListNames);
-                return Err(failed());
+                return Err(error_of(None));
             }
         };
         match listed(answer) {
@@ -209,11 +209,11 @@ impl<'a, S: Script> Folder for Replay<'a, S> {
             }
             Ok(None) => {
                 self.at += 1;
-                Err(failed())
+                Err(error_of(Some(answer)))
             }
             Err(_) => {
                 self.run_out(Wanted::ListNames);
-                Err(failed())
+                Err(error_of(None))
             }
         }
     }
@@ -227,7 +227,7 @@ impl<'a, S: Script> Folder for Replay<'a, S> {
             Some(answer) => answer,
             None => {
                 self.halt(Wanted::ReadFile(name));
-                return Err(failed());
+                return Err(error_of(None));
             }
         };
         match read(alloc, answer) {
@@ -237,11 +237,11 @@ impl<'a, S: Script> Folder for Replay<'a, S> {
             }
             Ok(None) => {
                 self.at += 1;
-                Err(failed())
+                Err(error_of(Some(answer)))
             }
             Err(_) => {
                 self.run_out(Wanted::ReadFile(name));
-                Err(failed())
+                Err(error_of(None))
             }
         }
     }

@@ -32,6 +32,8 @@ pub enum Request {
 pub enum Answer {
     /// It failed. It may have been done nevertheless, or a part of it.
     Failed,
+    /// The same, and the system said why by this number.
+    FailedBy { code: i32 },
     Done,
     /// Another file has the name that `Link` was to give.
     Taken,

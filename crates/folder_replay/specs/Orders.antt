@@ -1,0 +1,65 @@
+-- When an order may be followed, and what its end says.
+use Rattle.std.specs.Prelude.{◌≡◌, ℕ, List, map, Option, Some, None, Result, Ok, Err, IfOk}
+use Rattle.std.specs.String.{string_bytes}
+use Rattle.std.specs.Global.{Global, Vec}
+use Rattle.std.specs.declared.string.String.{String}
+use Rattle.folder_history.specs.Call.{Call}
+use Rattle.folder_history.specs.Parts.{Parts, IsNoPart}
+use Rattle.folder_history.specs.Turn.{Gave, IsStored, listing_of}
+use Rattle.folder_protocol.specs.Goes.{AreJoined}
+use Rattle.folder_protocol.specs.declared.putting.Outcome.{Outcome}
+use Rattle.folder_protocol.specs.declared.putting.Outcome.TheVariants.{OnDisk}
+use Rattle.folder_replay.specs.declared.order.Task.{Task}
+use Rattle.folder_replay.specs.declared.order.Task.TheVariants as tasks
+use Rattle.folder_replay.specs.declared.order.Order.{Order}
+use Rattle.folder_replay.specs.declared.order.End.{End}
+use Rattle.folder_replay.specs.declared.order.End.TheVariants as ends
+
+-- with what something is done
+pub record Matter : Type 0 where
+  pub temporary : List ℕ
+  pub name : List ℕ
+  pub bytes : List ℕ
+  pub names : List (List ℕ)
+
+-- with what an order is followed
+abbrev pub matter_of : Order → Matter
+matter_of order =
+    record { temporary = string_bytes order.temporary; name = string_bytes order.name; bytes = order.bytes.items; names = map string_bytes order.names.items }
+
+-- when the calls of a task are in turn after others
+abbrev pub MayTake : Task → Matter → Parts → List Call → Type 0
+MayTake tasks.Put m parts before = (m.name ≡ parts.name_of m.bytes) × IsNoPart parts m.temporary
+MayTake tasks.Keep m parts before = m.name ≡ parts.name_of m.bytes
+MayTake tasks.Replace m parts before = (m.name ≡ parts.name_of m.bytes) × IsNoPart parts m.temporary × AreJoined parts m.bytes m.names before
+MayTake tasks.Remove m parts before = (m.name ≡ parts.name_of m.bytes) × AreJoined parts m.bytes m.names before
+MayTake tasks.List m parts before = Unit {0}
+MayTake tasks.KeepAll m parts before = Unit {0}
+
+-- what the end of a task says of all calls: a part that is on the disk is stored, and names are those of the last listing
+abbrev pub Says : {E : Type 0} → Task → Matter → Result End E → Parts → List Call → Type 0
+Says tasks.Put m result parts calls = IfOk result (λ end. end ≡ ends.Came OnDisk → IsStored parts m.bytes calls)
+Says tasks.Keep m result parts calls = IfOk result (λ end. end ≡ ends.Came OnDisk → IsStored parts m.bytes calls)
+Says tasks.List m result parts calls = IfOk result (λ end. (names : Vec (String Global)) → end ≡ ends.Listed names → listing_of calls ≡ Gave (map string_bytes names.items))
+Says task m result parts calls = Unit {0}
+
+-- the end of a task that is about one part
+abbrev pub came : {E : Type 0} → Result Outcome E → Result End E
+came (Ok outcome) = Ok (ends.Came outcome)
+came (Err error) = Err error
+
+-- of a replacement
+abbrev pub replaced : {E : Type 0} → Result (Option Outcome) E → Result End E
+replaced (Ok (Some outcome)) = Ok (ends.Came outcome)
+replaced (Ok None) = Ok ends.Overtaken
+replaced (Err error) = Err error
+
+-- of a listing
+abbrev pub listed : {E : Type 0} → Result (Vec (String Global)) E → Result End E
+listed (Ok names) = Ok (ends.Listed names)
+listed (Err error) = Err error
+
+-- of a task that gives nothing
+abbrev pub kept : {E : Type 0} → Result (Unit {0}) E → Result End E
+kept (Ok done) = Ok ends.Kept
+kept (Err error) = Err error
