@@ -13,7 +13,7 @@ use std::marker::Model;
 /// The most bytes that one call reads: 2^48.
 pub const READ_LIMIT: u64 = 1 << 48;
 
-/// How many bytes one read asks for where an input is read through a buffer: 65,536.
+/// How many bytes one read asks for when any input is read through a buffer: 65,536.
 pub const READ_CHUNK: usize = 65_536;
 
 /// A reader or a writer, and how often it failed. Contracts see it as that pair.
