@@ -144,9 +144,16 @@ class Storm:
                 self.faults += [f"a reading: {fault}" for fault in faults_of([int(line.split(b",")[1]) for line in lines], before, after)]
 
 
-def in_threads(*works):
-    """Each work so often at once, until the storm is over."""
-    threads = [threading.Thread(target=work, args=(at,)) for work, count in works for at in range(count)]
+def in_threads(storm, *works):
+    """Each work so often at once, until the storm is over. What ends one of them early is a fault."""
+
+    def whole(work, at):
+        try:
+            work(at)
+        except Exception as fault:
+            storm.faults.append(f"{work.__name__}: {fault!r}")
+
+    threads = [threading.Thread(target=whole, args=(work, at)) for work, count in works for at in range(count)]
     for thread in threads:
         thread.start()
     for thread in threads:
@@ -176,7 +183,7 @@ def told(name, storm, *kinds):
 def nothing_is_lost_in_a_storm(room):
     make_folder(room, loads=0)
     storm = Storm(room)
-    in_threads((storm.import_loads, IMPORTERS), (storm.apply_offers, 1), (storm.pack, PACKERS), (storm.read, READERS))
+    in_threads(storm, (storm.import_loads, IMPORTERS), (storm.apply_offers, 1), (storm.pack, PACKERS), (storm.read, READERS))
     told("nothing_is_lost_in_a_storm", storm)
     rows_left(room, storm)
 
@@ -186,7 +193,7 @@ def forgets_lose_nothing_in_a_storm(room):
     make_folder(room, loads=0)
     storm = Storm(room)
     others = ((storm.drop_loads, DROPPERS), (storm.forget, FORGETTERS), (storm.pack, PACKERS - 1), (storm.read, READERS))
-    in_threads((storm.import_loads, IMPORTERS - 1), (storm.apply_offers, 1), *others)
+    in_threads(storm, (storm.import_loads, IMPORTERS - 1), (storm.apply_offers, 1), *others)
     told("forgets_lose_nothing_in_a_storm", storm, "deletes", "forgets", "forgotten")
     room.ok("forget", "d")
     rows = rows_left(room, storm)

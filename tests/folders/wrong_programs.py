@@ -51,7 +51,7 @@ def a_pack_that_takes_no_lock_is_seen_in_a_storm(room):
     wrong = wrong_program(room, PACK)
     make_folder(wrong, loads=0)
     storm = Storm(wrong, seconds=4)
-    in_threads((storm.import_loads, 1), (storm.pack, 1), (storm.read, 1))
+    in_threads(storm, (storm.import_loads, 1), (storm.pack, 1), (storm.read, 1))
     assert storm.faults, f"a pack that loses loads is not seen: {storm.counts}"
 
 
