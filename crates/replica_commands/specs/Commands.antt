@@ -14,6 +14,7 @@ use Rattle.replica_store.specs.Replica.{Replica, with_deleted, merged, SaysChang
 use Rattle.store_view.specs.Asked.{condition_names}
 use Rattle.column_file.specs.Files.{canonical_file, ranges_of, offer_bytes, offer_read}
 use Rattle.column_file.specs.Input.{IsUnread}
+use Rattle.replica_reading.specs.Held.{held_in}
 
 -- the schema of the table that a file's bytes hold, or their first fault
 abbrev pub schema_in : List ℕ → Result Table Refusal

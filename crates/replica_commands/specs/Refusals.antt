@@ -6,6 +6,7 @@ use Rattle.table_model.specs.declared.refusal.Refusal.TheVariants.{Memory, Confl
 use Rattle.column_file.specs.Input.{Judges, ComesOfWhole, IsReadWhole, is_refusal_of_reading}
 use Rattle.replica_store.specs.Replica.{Replica}
 use Rattle.replica_reading.specs.Held.{held_in}
+use Rattle.replica_reading.specs.ReadAndWritten.{IsReadAndWritten}
 use Rattle.replica_commands.specs.Commands.{Made}
 
 -- ---- the refusals of each command
