@@ -56,6 +56,21 @@ def a_word_is_a_null_as_it_is_in_the_text_and_in_quotes(room):
     room.refused("import", "--no-header", "--null", '"x"', "t", "-", given=b"1,x\n", line="refused BadCsv 1 2")
 
 
+def an_import_says_which_of_its_rows_are_deleted_already(room):
+    """Rows may be deleted before they come, in a file and in a folder. An import says how many of its own are, also if it is quiet."""
+    for name, quiet in (("t", ()), ("d/", ()), ("q", ("--quiet",)), ("e/", ("--quiet",))):
+        room.ok("create", name, "T", "A", "SMALLINT")
+        room.ok("delete-rows", name, "1.1", "1", "9")
+        ok = b"" if quiet else b"ok batches=1 new=1 rows=4 first=1.1\n"
+        found = room.run("import", *quiet, "--no-header", "--batch", "1.1", name, "-", given=b"1\n2\n3\n4\n")
+        assert found == (0, ok, b"note: 3 of the 4 rows are deleted already: they are not live\n"), f"{name} with {quiet}: {found}"
+        room.ok("delete-rows", name, "2.1", "0", "0")
+        status, _, err = room.run("import", "--no-header", "--batch", "2.1", name, "-", given=b"1\n2\n")
+        assert (status, err) == (0, b"note: 1 of the 2 rows is deleted already: it is not live\n"), f"{name}: {err}"
+        status, _, err = room.run("import", "--no-header", "--batch", "3.1", name, "-", given=b"1\n2\n")
+        assert (status, err) == (0, b""), f"{name}: {err}"
+
+
 def an_empty_line_is_a_row_of_a_table_of_one_column_alone(room):
     room.ok("create", "one", "T", "A", "SMALLINT")
     room.ok("import", "--batch", "1.1", "one", "-", given=b"A\n1\n\n2\n\n", prints=b"ok batches=1 new=1 rows=4 first=1.1\n")
@@ -271,6 +286,7 @@ TESTS = [
     a_spreadsheet_with_a_mark_and_carriage_returns,
     nulls_in_each_form_and_a_last_line_without_its_end,
     a_word_is_a_null_as_it_is_in_the_text_and_in_quotes,
+    an_import_says_which_of_its_rows_are_deleted_already,
     an_empty_line_is_a_row_of_a_table_of_one_column_alone,
     the_fields_of_a_text_are_those_that_words_name,
     what_is_dumped_is_imported_as_the_same_rows,

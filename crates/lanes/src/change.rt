@@ -129,6 +129,14 @@ impl Done {
         Done::new(Reply::Added(answer), left)
     }
 
+    /// What an import did, if it was one.
+    pub fn imported(&self) -> Option<&Imported> {
+        match &self.reply {
+            Reply::Added(Answer::Imported(imported)) => Some(imported),
+            _ => None,
+        }
+    }
+
     /// How it left that.
     pub fn left(&self) -> Left {
         self.left

@@ -7,6 +7,7 @@ use crate::reports::write_line;
 use file_home::Left;
 use file_replacing::Replaced;
 use refusal_sentences::Printable;
+use replica_commands::Imported;
 
 /// Says what came of a change, unless that is to be quiet. If that can't be written, the change is made all the same.
 pub fn say<R: Print + Eprint + AllocGlobal>(
@@ -17,6 +18,9 @@ pub fn say<R: Print + Eprint + AllocGlobal>(
 ) -> Result<(), Failure> {
     let line = format!(in rt.alloc(); "{done}\n")?;
     let told = say_line(rt, line.as_str(), is_quiet);
+    if let Some(imported) = done.imported() {
+        say_deleted(rt, imported);
+    }
     say_left(rt, home, done.left());
     told
 }
@@ -27,6 +31,20 @@ pub fn say_line<R: Print + AllocGlobal>(rt: &R, line: &str, is_quiet: bool) -> R
         return Ok(());
     }
     write_line(rt, line.as_bytes())
+}
+
+/// Says on standard error how many of the rows that an import brought were deleted already, if there are such.
+fn say_deleted<R: Eprint>(rt: &R, imported: &Imported) {
+    let rows = imported.rows;
+    let _ = match imported.deleted {
+        0 => return,
+        1 => eprintln!(rt; "note: 1 of the {rows} rows is deleted already: it is not live"),
+        deleted => {
+            eprintln!(rt;
+                "note: {deleted} of the {rows} rows are deleted already: they are not live"
+            )
+        }
+    };
 }
 
 /// Says on standard error what could not be synced, if there is such.

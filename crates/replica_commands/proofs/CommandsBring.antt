@@ -181,7 +181,7 @@ pub load_done : (held : StoreForm) (load : LoadForm) (given : Option BatchName) 
     → start.held ≡ held → now.held ≡ start.held → t ≡ held.replica.schema → new_replica t (record { 0 = 1 }) ≡ Ok start.own.replica → chosen_name held.replica.state given words (length load.batches) ≡ Ok name
     → offering held.replica.own offer ≡ loaded held.replica load name → applied (both_of start) offer ≡ Ok (u, both_of now)
     → now.own.replica ≡ joined_with start.own.replica (unheld_state start.held.replica offer.state) → IsBrought now.held now.own
-    → ((n : ℕ) → n ≡ map.len now.own.replica.state.batches → answer ≡ record { batches = length load.batches; new = n; rows = (imported_as load name held.replica held.replica).rows; first = (imported_as load name held.replica held.replica).first })
+    → ((n : ℕ) → n ≡ map.len now.own.replica.state.batches → answer ≡ record { batches = length load.batches; new = n; rows = (imported_as load name held.replica held.replica).rows; deleted = (imported_as load name held.replica held.replica).deleted; first = (imported_as load name held.replica held.replica).first })
     → BringsTo (λ (done : Imported). done) (λ (done : Imported). not (done.new == 0)) (Ok (answer, now.own)) held (load_brought load given words held.replica) (importing load given words held.replica)
 load_done held load given words name offer start now t u answer start_is held_is schema new chosen is made own brought told =
     let at : now.held ≡ held = held_is ∙ start_is in

@@ -1,6 +1,7 @@
 pub mod CommandsBring
 pub mod CommandSteps
 pub mod CsvLoading
+pub mod DeletedRows
 pub mod StoppedLoads
 pub mod DrawnNames
 pub mod FileLaws

@@ -1,12 +1,12 @@
 -- Imports: batches of rows that wait for their names, and what they make of a replica under consecutive names.
-use Rattle.std.specs.Prelude.{◌≡◌, ℕ, ◌+◌, ◌-◌, ◌/◌, ◌%◌, ◌≤◌, Bool, false, cond, not, ◌&&◌, ◌==◌, nat_le, nat_lt, List, [], ◌∷◌, ◌++◌, length, map as each, Option, Some, None, Result, Ok, Err, IsTrue, refl}
+use Rattle.std.specs.Prelude.{◌≡◌, ℕ, ◌+◌, ◌-◌, ◌/◌, ◌%◌, ◌≤◌, Bool, false, cond, not, ◌&&◌, ◌==◌, nat_le, nat_lt, List, [], ◌∷◌, ◌++◌, filter, length, map as each, Option, Some, None, Result, Ok, Err, IsTrue, refl}
 use Rattle.std.specs.Coded.{Coded, code_by, coded×, coded_list}
 use Rattle.std.specs.FinMap as map
 use Rattle.std.specs.FinSet as set
 use Rattle.std.specs.List.{All, list_all}
-use Rattle.table_model.specs.Name.{is_proper_name}
+use Rattle.table_model.specs.Name.{is_proper_name, row_name_cmp}
 use Rattle.table_model.specs.Reading.{◌>>=◌}
-use Rattle.table_model.specs.State.{State, Batch, coded_batch}
+use Rattle.table_model.specs.State.{State, Batch, Cells, coded_batch, named_from}
 use Rattle.table_model.specs.Table.{Table, IsBatch, coded_table, rows_fault}
 use Rattle.table_model.specs.declared.names.BatchName.{BatchName}
 use Rattle.table_model.specs.declared.names.RowName.{RowName}
@@ -122,10 +122,21 @@ new_since old new = map.len new.state.batches - map.len old.state.batches
 abbrev pub name_of_some : ℕ → BatchName → Option BatchName
 name_of_some count name = cond (count == 0) None (Some name)
 
+-- how many rows of batches under their names are deleted
+abbrev pub deleted_among : set.FinSet row_name_cmp → List (BatchName × Batch) → ℕ
+deleted_among deleted [] = 0
+deleted_among deleted (e ∷ es) = length (filter (λ (row : RowName × Cells). set.contains deleted row.0) (named_from e.0 0 e.1)) + deleted_among deleted es
+
 -- what an import of a load under this first name is answered
 abbrev pub imported_as : LoadForm → BatchName → Replica → Replica → Imported
 imported_as load name old new =
-    record { batches = length load.batches; new = new_since old new; rows = row_count load.batches; first = name_of_some (length load.batches) name }
+    record {
+      batches = length load.batches;
+      new = new_since old new;
+      rows = row_count load.batches;
+      deleted = deleted_among old.state.deleted (named_batches name load.batches);
+      first = name_of_some (length load.batches) name;
+    }
 
 -- a load comes under consecutive names from a first one on, as by a merge with a replica that has it
 abbrev pub importing_as : LoadForm → BatchName → Replica → Made Imported

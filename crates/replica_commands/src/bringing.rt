@@ -110,6 +110,7 @@ pub fn bring_load(
     let batches = load.batches();
     let rows = load.rows();
     let name = choose_name(held, given, words, batches as u32)?;
+    let deleted = load.deleted_by(held.tombs(), name);
     let (schema, entries) = load.into_entries(alloc, name)?;
     let mut brought = Brought::nothing(alloc, held)?;
     brought.take(alloc, Offer::from_parts(schema, entries, Tombs::new(alloc)))?;
@@ -118,6 +119,7 @@ pub fn bring_load(
         batches: batches as u32,
         new: own.batches() as u32,
         rows,
+        deleted,
         first: name_of_some(batches, name),
     };
     Ok((done, own))

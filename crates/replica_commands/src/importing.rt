@@ -23,6 +23,8 @@ pub struct Imported {
     pub new: u32,
     /// How many rows there were.
     pub rows: u64,
+    /// How many of them were deleted already under their names, so that they are not live.
+    pub deleted: u64,
     /// The first batch's name, if there is a batch.
     pub first: Option<BatchName>,
 }
@@ -49,6 +51,7 @@ pub fn import_load(
     let rows = load.rows();
     let held = store.batches();
     let name = choose_name(store, given, words, batches as u32)?;
+    let deleted = load.deleted_by(store.tombs(), name);
     let (schema, entries) = load.into_entries(alloc, name)?;
     let offer = Offer::from_parts(schema, entries, Tombs::new(alloc));
     store.absorb(alloc, offer)?;
@@ -56,6 +59,7 @@ pub fn import_load(
         batches: batches as u32,
         new: store.batches().saturating_sub(held) as u32,
         rows,
+        deleted,
         first: name_of_some(batches, name),
     })
 }

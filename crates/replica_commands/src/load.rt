@@ -5,8 +5,10 @@ ghost use Rattle.table_model.specs.Outcome.{Acts, Gives};
 ghost use Rattle.replica_store.specs.Exchange.{AreOffered};
 ghost use Rattle.replica_store.specs.Replica.{batch_limit};
 ghost use Rattle.replica_store.specs.Forgets.{row_count};
-ghost use Rattle.replica_commands.specs.Loads.{added_batch, empty_load, batches_in, named_batches, named_entries, first_name};
+ghost use Rattle.replica_commands.specs.Loads.{added_batch, empty_load, batches_in, deleted_among, named_batches, named_entries, first_name};
 
+use catalogue_join::Tombs;
+use replica_reading::live_count;
 use replica_store::MAX_BATCHES;
 use segment_core::Segment;
 use std::alloc::{AllocError, Global};
@@ -82,6 +84,17 @@ impl Load {
         count_rows(self.segments.as_slice())
     }
 
+    /// How many of the rows are deleted if the batches come under consecutive names from a first one on.
+    pub(crate) fn deleted_by(&self, tombs: &Tombs, first: BatchName) -> u64
+        requires { first_name first (length self.now.batches) ≡ Ok first }
+        ensures { result ≡ deleted_among tombs.now (named_batches first self.now.batches) }
+    {
+        if self.segments.as_slice().is_empty() {
+            return 0;
+        }
+        count_deleted(self.segments.as_slice(), tombs, first)
+    }
+
     /// The batches under consecutive names from a first one on.
     pub(crate) fn into_entries(
         self,
@@ -110,6 +123,21 @@ fn count_rows(segments: &[Segment]) -> u64
     let mut count: u64 = 0;
     for index in 0..segments.len() {
         count += segments[index].rows() as u64;
+    }
+    count
+}
+
+/// How many rows of segments are deleted if these come under consecutive names from a first one on.
+fn count_deleted(segments: &[Segment], tombs: &Tombs, first: BatchName) -> u64
+    requires limit { length segments.now ≤ batch_limit }
+    requires names { first.number.0 + length segments.now ≤ 4294967296 }
+    ensures { result ≡ deleted_among tombs.now (named_batches first (batches_in segments.now)) }
+{
+    let mut count: u64 = 0;
+    for index in 0..segments.len() {
+        let rows = segments[index].rows();
+        let live = live_count(tombs, name_after(first, index), rows);
+        count += (rows - live) as u64;
     }
     count
 }

@@ -32,5 +32,5 @@ pub returns-clause-brings : goal.returns-clause-brings
 returns-clause-brings c =
     let held = c.args.held.now in
     let own = c.delete.new.self in
-    let says = ap not (c.has_all.ensures ∙ λ i. set.is_subset (c.tombs-2.ensures i) (c.tombs.ensures i)) in
-    rows_done held c.in_ok-own.own own c.schema.result.now c.args.first c.args.last (not c.has_all.result) tt c.schema.ensures c.in_ok-own.ensures.value c.in_ok-delete.ensures.acts says c.keeps_its_limits.ensures.limit
+    let says = ap not (c.has_all-is_changed.ensures ∙ λ i. set.is_subset (c.tombs-2.ensures i) (c.tombs.ensures i)) in
+    rows_done held c.in_ok-own.own own c.schema.result.now c.args.first c.args.last (not c.has_all-is_changed.result) tt c.schema.ensures c.in_ok-own.ensures.value c.in_ok-delete.ensures.acts says c.keeps_its_limits.ensures.limit

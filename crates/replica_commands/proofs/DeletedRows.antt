@@ -1,0 +1,31 @@
+-- The rows of batches that are deleted, counted as those that are not live.
+use Rattle.std.specs.Prelude.{◌≡◌, ℕ, suc, ◌+◌, ◌-◌, ◌≤◌, Bool, true, false, cond, not, List, [], ◌∷◌, filter, length}
+use Rattle.std.proofs.Common.{refl, sym, ap, ◌∙◌, arith}
+use Rattle.std.specs.FinSet as set
+use Rattle.table_model.specs.Name.{row_name_cmp}
+use Rattle.table_model.specs.State.{Batch, Cells, named_from}
+use Rattle.table_model.specs.declared.names.BatchName.{BatchName}
+use Rattle.table_model.specs.declared.names.RowName.{RowName}
+use Rattle.transpose_order.specs.Mask.{count_below}
+use Rattle.replica_reading.specs.Counts.{is_live_at, live_rows_of}
+use Rattle.replica_reading.proofs.BatchCounting.{live_counted}
+use Rattle.replica_reading.proofs.CountedBatches.{length-named_from}
+
+-- what passes and what does not are all
+both_counted : {X : Type 0} (p : X → Bool) (xs : List X) → length (filter p xs) + length (filter (λ (x : X). not (p x)) xs) ≡ length xs
+both_counted p [] = refl
+both_counted {X = X} p (x ∷ xs) = by (p x) (both_counted p xs)
+  where
+    by : (b : Bool) → length (filter p xs) + length (filter (λ (y : X). not (p y)) xs) ≡ length xs
+        → length (cond b (x ∷ filter p xs) (filter p xs)) + length (cond (not b) (x ∷ filter (λ (y : X). not (p y)) xs) (filter (λ (y : X). not (p y)) xs)) ≡ suc (length xs)
+    by true rest = omega (arith, rest)
+    by false rest = omega (arith, rest)
+
+-- the rows of a batch that are not live are deleted
+pub deleted_is : (deleted : set.FinSet row_name_cmp) (name : BatchName) (rows : Batch) (live : ℕ) → live ≡ count_below (is_live_at deleted name (length rows)) (length rows)
+    → length rows - live ≡ length (filter (λ (row : RowName × Cells). set.contains deleted row.0) (named_from name 0 rows))
+deleted_is deleted name rows live is =
+    let alive : live ≡ length (live_rows_of deleted (name, rows)) = is ∙ live_counted deleted name rows in
+    let all = both_counted (λ (row : RowName × Cells). set.contains deleted row.0) (named_from name 0 rows) in
+    let count = length-named_from name 0 rows in
+    omega (arith, alive, all, count)
