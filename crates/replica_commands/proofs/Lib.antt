@@ -1,7 +1,7 @@
 pub mod CommandsBring
 pub mod CommandSteps
 pub mod CsvLoading
-pub mod DeletedRows
+pub mod DeletionsCounted
 pub mod StoppedLoads
 pub mod DrawnNames
 pub mod FileLaws
