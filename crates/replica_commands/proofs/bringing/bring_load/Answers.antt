@@ -27,8 +27,8 @@ returns-in_err-name-clause-refused c =
     let p = err_from_is_err_and c.from_residual.result c.from_residual.ensures.1 in
     rw (p.1, p.2) (name_listed c.args.held.now.replica.state c.args.given c.args.words.now _ c.in_err-name.field-0.0 (sym c.in_err-name.ensures))
 
-pub deleted_by-requires : goal.deleted_by-requires
-deleted_by-requires c =
+pub deleted_by-deleted-requires : goal.deleted_by-deleted-requires
+deleted_by-deleted-requires c =
     chosen_first c.args.held.now.replica.state c.args.given c.args.words.now (length c.args.load.batches) c.in_ok-name.name
     (ap (λ (n : ℕ). chosen_name c.args.held.now.replica.state c.args.given c.args.words.now n) (sym c.batches-batches.ensures.value) ∙ sym c.in_ok-name.ensures)
 
@@ -68,7 +68,7 @@ returns-clause-brings c =
     let chosen = ap (λ (n : ℕ). chosen_name r.state c.args.given c.args.words.now n) (sym c.batches-batches.ensures.value) ∙ sym c.in_ok-name.ensures in
     let is = offer_is r c.args.load c.in_ok-name.name c.from_parts.result c.in_ok-schema.entries.items (c.from_parts.ensures.schema ∙ c.in_ok-schema.ensures.schema) c.from_parts.ensures.batches (c.from_parts.ensures.deleted ∙ c.new.ensures)
     c.from_parts.ensures.entries c.in_ok-schema.ensures.named in
-    let answer : Imported = record { batches = c.batches-batches.result; new = c.batches.result; rows = c.rows-rows.result; deleted = c.deleted_by.result; first = c.name_of_some.result } in
+    let answer : Imported = record { batches = c.batches-batches.result; new = c.batches.result; rows = c.rows-rows.result; deleted = c.deleted_by-deleted.result; first = c.name_of_some.result } in
     let value = c.into_own-own.ensures.value in
     subst (λ (s : StoreForm). BringsTo (λ (done : Imported). done) (λ (done : Imported). not (done.new == 0)) (Ok (answer, s)) c.args.held.now (load_brought c.args.load c.args.given c.args.words.now r) (importing c.args.load c.args.given c.args.words.now r)) (sym value)
     (load_done c.args.held.now c.args.load c.args.given c.args.words.now c.in_ok-name.name c.from_parts.result c.in_ok-brought.brought c.take.new.self r.schema c.in_ok-take.field-0 answer
@@ -77,6 +77,6 @@ returns-clause-brings c =
       batches = c.batches-batches.ensures.value i;
       new = (c.batches.ensures.value ∙ ap (λ s. map.len s.replica.state.batches) value ∙ sym same) i;
       rows = c.rows-rows.ensures i;
-      deleted = (c.deleted_by.ensures ∙ ap (λ (d : set.FinSet row_name_cmp). deleted_among d (named_batches c.in_ok-name.name c.args.load.batches)) c.tombs.ensures) i;
+      deleted = (c.deleted_by-deleted.ensures ∙ ap (λ (d : set.FinSet row_name_cmp). deleted_among d (named_batches c.in_ok-name.name c.args.load.batches)) c.tombs.ensures) i;
       first = (c.name_of_some.ensures ∙ ap (λ (n : ℕ). name_of_some n c.in_ok-name.name) c.batches-batches.ensures.value) i;
     }))

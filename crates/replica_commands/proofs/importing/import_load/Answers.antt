@@ -15,8 +15,8 @@ returns-in_err-name-clause-refused c =
     let p = err_from_is_err_and c.from_residual.result c.from_residual.ensures.1 in
     rw (p.1, p.2) (name_listed c.args.store.now.replica.state c.args.given c.args.words.now _ c.in_err-name.field-0.0 (sym c.in_err-name.ensures))
 
-pub deleted_by-requires : goal.deleted_by-requires
-deleted_by-requires c =
+pub deleted_by-deleted-requires : goal.deleted_by-deleted-requires
+deleted_by-deleted-requires c =
     chosen_first c.args.store.now.replica.state c.args.given c.args.words.now (length c.args.load.batches) c.in_ok-name.name
     (ap (λ (n : ℕ). chosen_name c.args.store.now.replica.state c.args.given c.args.words.now n) (sym c.batches-batches.ensures.value) ∙ sym c.in_ok-name.ensures)
 
@@ -46,12 +46,12 @@ returns-clause-makes c =
     let is = offer_is r c.args.load c.in_ok-name.name c.from_parts-offer.result c.in_ok-schema.entries.items (c.from_parts-offer.ensures.schema ∙ c.in_ok-schema.ensures.schema) c.from_parts-offer.ensures.batches (c.from_parts-offer.ensures.deleted ∙ c.new.ensures)
     c.from_parts-offer.ensures.entries c.in_ok-schema.ensures.named in
     let news : c.saturating_sub.result ≡ new_since r c.absorb.new.self.replica = c.saturating_sub.ensures ∙ (λ j. c.batches.ensures.value j - c.batches-held.ensures.value j) in
-    let answer : Imported = record { batches = c.batches-batches.result; new = c.saturating_sub.result; rows = c.rows-rows.result; deleted = c.deleted_by.result; first = c.name_of_some.result } in
+    let answer : Imported = record { batches = c.batches-batches.result; new = c.saturating_sub.result; rows = c.rows-rows.result; deleted = c.deleted_by-deleted.result; first = c.name_of_some.result } in
     let told : answer ≡ imported_as c.args.load c.in_ok-name.name r c.absorb.new.self.replica = λ i. record {
       batches = c.batches-batches.ensures.value i;
       new = news i;
       rows = c.rows-rows.ensures i;
-      deleted = (c.deleted_by.ensures ∙ ap (λ (d : set.FinSet row_name_cmp). deleted_among d (named_batches c.in_ok-name.name c.args.load.batches)) c.tombs.ensures) i;
+      deleted = (c.deleted_by-deleted.ensures ∙ ap (λ (d : set.FinSet row_name_cmp). deleted_among d (named_batches c.in_ok-name.name c.args.load.batches)) c.tombs.ensures) i;
       first = (c.name_of_some.ensures ∙ ap (λ (n : ℕ). name_of_some n c.in_ok-name.name) c.batches-batches.ensures.value) i;
     } in
     import_done r c.absorb.new.self.replica c.args.load c.args.given c.args.words.now c.in_ok-name.name c.from_parts-offer.result tt answer chosen is c.in_ok-absorb.ensures.acts told
