@@ -16,8 +16,7 @@ pub struct Peeked<D> {
 
 impl<D: Read + Drop> Peeked<D> {
     /// A reader, from which nothing was read yet. If it fails, that comes again when it is read.
-    pub fn new(inner: D) -> Peeked<D> {
-        let mut inner = inner;
+    pub fn new(mut inner: D) -> Peeked<D> {
         let mut front = [0; KIND_BYTES];
         let came = read_front(&mut inner, &mut front);
         Peeked {
