@@ -1,11 +1,8 @@
-//! Tests of command_line: what command lines ask for, the texts of help, of faults and of refusals, and the sentence of each refusal.
+//! Tests of command_line and of refusal_sentences: what command lines ask for, and the sentence of each refusal. Texts of help, faults of the
+//! command line, and what is said of queries, values and tables are tried by tests/program.
 #![tactic(auto)]
 
-#[cfg(test)]
-mod knowledge_tests;
 #[cfg(test)]
 mod request_tests;
 #[cfg(test)]
 mod sentence_tests;
-#[cfg(test)]
-mod tests;

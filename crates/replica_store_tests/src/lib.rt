@@ -2,10 +2,6 @@
 #![tactic(auto)]
 
 #[cfg(test)]
-mod exchange_tests;
-#[cfg(test)]
 mod readme_example;
 #[cfg(test)]
 mod refused_tests;
-#[cfg(test)]
-mod tests;

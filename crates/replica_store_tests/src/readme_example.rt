@@ -2,26 +2,36 @@
 use replica_store::Store;
 use std::alloc::Global;
 use std::test::Fail;
-use table_model::{ColType, Origin, RowName, Rows, Schema};
+use table_model::{ColType, Origin, Refusal, RowName, Rows, Schema};
 use test_support::agree;
 
-/// Two replicas of a table, of which one takes what the other has: its rows, and a deletion. A second merge changes nothing.
-fn merge_two(alloc: Global) -> Result<(), Fail> {
+/// A replica of the table of visits, with this own origin.
+fn replica(alloc: Global, own: u32) -> Result<Store, Refusal> {
     let schema = Schema::new(alloc, "VISITS", &[("HITS", ColType::BigInt)])?;
-    let mut here = Store::new(alloc, &schema, Origin(1))?;
-    let mut there = Store::new(alloc, &schema, Origin(2))?;
-    let mut rows = Rows::new(alloc);
-    rows.push_row(&[Some(7)])?;
-    rows.push_row(&[None])?;
-    here.append(alloc, &rows)?;
-    let batch = there.append(alloc, &rows)?;
+    Store::new(alloc, &schema, Origin(own))
+}
+
+/// Takes what another replica has: its rows, and a deletion. A second merge changes nothing.
+fn merge_two(alloc: Global, here: &mut Store, there: &mut Store, rows: &Rows) -> Result<(), Fail> {
+    here.append(alloc, rows)?;
+    let batch = there.append(alloc, rows)?;
     there.delete(alloc, RowName { batch, ordinal: 1 }, 1)?;
-    agree(here.merge(alloc, &there)?, true)?;
-    agree(here.merge(alloc, &there)?, false)?;
+    agree(here.merge(alloc, there)?, true)?;
+    agree(here.merge(alloc, there)?, false)?;
     agree(here.batches(), 2)
+}
+
+/// The same of two replicas that have nothing yet.
+fn merge_rows(alloc: Global, rows: &Rows) -> Result<(), Fail> {
+    let mut here = replica(alloc, 1)?;
+    let mut there = replica(alloc, 2)?;
+    merge_two(alloc, &mut here, &mut there, rows)
 }
 
 #[test]
 fn the_example_holds(rt: HostRuntime) -> Result<(), Fail> {
-    merge_two(rt.alloc())
+    let mut rows = Rows::new(rt.alloc());
+    rows.push_row(&[Some(7)])?;
+    rows.push_row(&[None])?;
+    merge_rows(rt.alloc(), &rows)
 }
