@@ -131,7 +131,7 @@ all_named (Ok how) name before after taken = named_taken how name before after t
 all_named (Err e) name before after taken = tt
 
 -- the same after some calls
-pub named_later : (how : Outcome) (name : List ℕ) (before mid after : List Call) → Follows before mid → IsNamed how name mid after → IsNamed how name before after
+named_later : (how : Outcome) (name : List ℕ) (before mid after : List Call) → Follows before mid → IsNamed how name mid after → IsNamed how name before after
 named_later OnDisk name before mid after first named = tt
 named_later Unsynced name before mid after first (inl done) = inl (has_later _ before mid after first done)
 named_later Unsynced name before mid after first (inr taken) = inr (has_later _ before mid after first taken)

@@ -1,19 +1,16 @@
 -- How what is taken leads on.
-use Rattle.std.proofs.Common.{◌≡◌, ◌⊎◌, inl, inr, ⊎_elim, ℕ, true, Result, Ok, Err, OnOk, IfOk, IfErr, Some, List, [], ◌∷◌, ◌++◌, append_assoc, ap, sym, ◌∙◌, subst}
-use Rattle.folder_history.specs.Call.{Call, Unlocked, Began, Read}
+use Rattle.std.proofs.Common.{◌≡◌, ◌⊎◌, inl, inr, ⊎_elim, ℕ, true, Result, Ok, Err, OnOk, IfOk, IfSome, Option, Some, None, List, ◌∷◌, ◌++◌, append_assoc, ap, sym, ◌∙◌, subst}
+use Rattle.folder_history.specs.Call.{Call, Unlocked}
 use Rattle.folder_history.specs.Disk.{Among}
 use Rattle.folder_history.specs.Parts.{Parts, IsNoPart}
-use Rattle.folder_history.specs.Turn.{Gave, listing_of, HasRead, HasReadSince}
+use Rattle.folder_history.specs.Turn.{Gave, Stage, Stored, Guarded, IsStored, stage_of, unguarded, listing_of}
 use Rattle.folder_protocol.specs.Reads.{KeepsRead, HasFound}
-use Rattle.folder_protocol.specs.Causes.{IsNamed}
-use Rattle.folder_protocol.specs.Goes.{GoesInTurn}
-use Rattle.folder_protocol.specs.Taking.{IsTaken, WasTaken, AreJudged, Gives, UntakenCause}
+use Rattle.folder_protocol.specs.Taking.{IsTaken, HasListed, HasOnlyPassed, Gives, UntakenCause}
 use Rattle.folder_protocol.specs.declared.putting.Outcome.{Outcome}
-use Rattle.folder_protocol.specs.declared.putting.Outcome.TheVariants.{OnDisk, Unsynced, Gone as NotThere, Damaged}
+use Rattle.folder_protocol.specs.declared.putting.Outcome.TheVariants.{OnDisk}
 use Rattle.folder_protocol.specs.declared.taking.Untaken.{Untaken}
 use Rattle.folder_protocol.specs.declared.taking.Untaken.TheVariants.{Gone, Failed, Refused}
 use Rattle.folder_protocol.proofs.Causing.{Follows, has_later, has_before}
-use Rattle.folder_protocol.proofs.Lines.{has_read_later}
 use Rattle.folder_protocol.proofs.ReadLines.{found_all, one_no_part}
 
 -- any: which calls were made is the same for all
@@ -56,49 +53,30 @@ untaken_before Gone before mid after then cause = (cause.0, has_before _ before 
 untaken_before (Failed error) before mid after then cause = has_before _ before mid after then cause
 untaken_before (Refused fault) before mid after then cause = tt
 
--- the same of an answer, between some calls more
-pub untaken_between : {T E : Type 0} (r : Result T (Untaken E)) (before mid after last : List Call) → Follows before mid → Follows after last
-    → IfErr r (λ fault. UntakenCause fault mid after) → IfErr r (λ fault. UntakenCause fault before last)
-untaken_between (Ok x) before mid after last first then cause = tt
-untaken_between (Err fault) before mid after last first then cause = untaken_before fault before after last then (untaken_later fault before mid after first cause)
+-- a listing, between some calls more
+pub listed_between : (before mid after last : List Call) → Follows before mid → Follows after last → HasListed mid after → HasListed before last
+listed_between before mid after last first then (names, has) = (names, has_before (Gives names) before after last then (has_later (Gives names) before mid after first has))
 
--- calls, and then calls
-pub follows_later : (before mid after : List Call) → Follows before mid → Follows mid after → Follows before after
-follows_later before mid after (calls, is) (more, then) = (more ++ calls, then ∙ ap (λ (l : List Call). more ++ l) is ∙ sym (append_assoc more calls before))
+pub passed_between : (P : List ℕ → Type 0) (before mid after last : List Call) → Follows before mid → Follows after last → HasOnlyPassed P mid after → HasOnlyPassed P before last
+passed_between P before mid after last first then (names, has, each) = (names, has_before (Gives names) before after last then (has_later (Gives names) before mid after first has), each)
 
--- what was read since the last listing was read
-read_since : (parts : Parts) (b : List ℕ) (calls : List Call) → HasReadSince parts b calls → HasRead parts b calls
-read_since parts b [] has = absurd has
-read_since parts b (Began ∷ earlier) has = absurd has
-read_since parts b (Read name (Some (Some found)) ∷ earlier) has = ⊎_elim (λ x. inl x) (λ x. inr (read_since parts b earlier x)) has
-read_since parts b (call ∷ earlier) has = read_since parts b earlier has
+-- the same of an answer
+pub all_listed_between : {V E : Type 0} (r : Result (Option V) E) (before mid after last : List Call) → Follows before mid → Follows after last
+    → IfOk r (λ answer. answer ≡ None → HasListed mid after) → IfOk r (λ answer. answer ≡ None → HasListed before last)
+all_listed_between (Ok answer) before mid after last first then listed = λ none. listed_between before mid after last first then (listed none)
+all_listed_between (Err e) before mid after last first then listed = tt
 
--- what was passed over or taken was so, after some calls
-pub was_taken : (parts : Parts) (P : List ℕ → Type 0) (name : List ℕ) (mid after : List Call) (taken : List (List ℕ)) → GoesInTurn parts mid after
-    → P name ⊎ IsTaken parts mid taken name → P name ⊎ WasTaken parts after taken name
-was_taken parts P name mid after taken goes (inl p) = inl p
-was_taken parts P name mid after taken goes (inr t) =
-    inr (t.0, t.1, subst (λ (l : List Call). HasRead parts t.0 l) (sym goes.1) (has_read_later parts t.0 goes.0 mid (read_since parts t.0 mid t.2)), t.3)
+pub all_passed_between : {V E : Type 0} (r : Result (Option V) E) (P : List ℕ → Type 0) (before mid after last : List Call) → Follows before mid → Follows after last
+    → IfOk r (λ answer. IfSome answer (λ how. HasOnlyPassed P mid after)) → IfOk r (λ answer. IfSome answer (λ how. HasOnlyPassed P before last))
+all_passed_between (Ok (Some how)) P before mid after last first then passed = passed_between P before mid after last first then passed
+all_passed_between (Ok None) P before mid after last first then passed = tt
+all_passed_between (Err e) P before mid after last first then passed = tt
 
--- what was judged, between some calls and the end of the lock
-pub judged_between : {T E : Type 0} (r : Result T E) (parts : Parts) (P : List ℕ → Type 0) (taken : List (List ℕ)) (before mid after last : List Call) → Follows before mid → last ≡ Unlocked ∷ after
-    → OnOk r (AreJudged parts P taken mid after) → OnOk r (AreJudged parts P taken before last)
-judged_between (Ok x) parts P taken before mid after last first is (names, has, each) = (
-  names,
-  has_before (Gives names) before after last (Unlocked ∷ [], is) (has_later (Gives names) before mid after first has),
-  λ name among. ⊎_elim (λ p. inl p) (λ t. inr (t.0, t.1, subst (λ (l : List Call). HasRead parts t.0 l) (sym is) t.2, t.3)) (each name among),
-)
-judged_between (Err e) parts P taken before mid after last first is judged = tt
-
--- how a part was named, and then some calls more
-named_before : (how : Outcome) (name : List ℕ) (before mid after : List Call) → Follows mid after → IsNamed how name before mid → IsNamed how name before after
-named_before OnDisk name before mid after then named = tt
-named_before Unsynced name before mid after then (inl done) = inl (has_before _ before mid after then done)
-named_before Unsynced name before mid after then (inr taken) = inr (has_before _ before mid after then taken)
-named_before NotThere name before mid after then named = has_before _ before mid after then named
-named_before Damaged name before mid after then named = has_before _ before mid after then named
-
-pub all_named_before : {E : Type 0} (r : Result Outcome E) (name : List ℕ) (before mid after : List Call) → Follows mid after
-    → IfOk r (λ how. IsNamed how name before mid) → IfOk r (λ how. IsNamed how name before after)
-all_named_before (Ok how) name before mid after then named = named_before how name before mid after then named
-all_named_before (Err e) name before mid after then named = tt
+-- a part that is stored stays so when the lock is let go
+pub stored_unlocked : {E : Type 0} (r : Result (Option Outcome) E) (parts : Parts) (bytes : List ℕ) (mid after : List Call) → after ≡ Unlocked ∷ mid
+    → IfOk r (λ answer. answer ≡ Some OnDisk → IsStored parts bytes mid) → IfOk r (λ answer. answer ≡ Some OnDisk → IsStored parts bytes after)
+stored_unlocked (Ok answer) parts bytes mid after is stored = λ on.
+    let still = λ (e : (stage_of parts mid ≡ Stored bytes) ⊎ (stage_of parts mid ≡ Guarded bytes)).
+    ⊎_elim (λ a. ap (λ (l : List Call). stage_of parts l) is ∙ ap (λ (s : Stage). unguarded s) a) (λ a. ap (λ (l : List Call). stage_of parts l) is ∙ ap (λ (s : Stage). unguarded s) a) e in
+    inl (still (stored on))
+stored_unlocked (Err e) parts bytes mid after is stored = tt

@@ -1,9 +1,9 @@
 -- What is taken of the parts of a folder, and why not all are.
-use Rattle.std.specs.Prelude.{◌≡◌, ◌⊎◌, ℕ, List, Some}
-use Rattle.folder_history.specs.Call.{Call, Listed}
+use Rattle.std.specs.Prelude.{◌≡◌, ℕ, List, [], ◌∷◌, Some}
+use Rattle.folder_history.specs.Call.{Call, Listed, Read}
 use Rattle.folder_history.specs.Disk.{Among}
 use Rattle.folder_history.specs.Parts.{Parts}
-use Rattle.folder_history.specs.Turn.{HasRead, HasReadSince}
+use Rattle.folder_history.specs.Turn.{HasReadSince}
 use Rattle.folder_protocol.specs.Causes.{Fails, FindsNone, HasCall}
 use Rattle.folder_protocol.specs.declared.taking.Untaken.{Untaken}
 use Rattle.folder_protocol.specs.declared.taking.Untaken.TheVariants.{Gone, Failed, Refused}
@@ -23,11 +23,16 @@ abbrev pub Gives : List (List ℕ) → Call → Type 0
 Gives names (Listed answer) = answer ≡ Some names
 Gives names call = ⊥
 
--- the part of this name was read, and its bytes are among these
-abbrev pub WasTaken : Parts → List Call → List (List ℕ) → List ℕ → Type 0
-WasTaken parts calls taken name = (bytes : List ℕ) × (name ≡ parts.name_of bytes) × HasRead parts bytes calls × Among bytes taken
+-- a listing was answered between two histories
+abbrev pub HasListed : List Call → List Call → Type 0
+HasListed before after = (names : List (List ℕ)) × HasCall (Gives names) before after
 
--- Between two histories a listing gave names, and of each it may be said that it may be passed over, or its part was read and is among these.
-abbrev pub AreJudged : Parts → (List ℕ → Type 0) → List (List ℕ) → List Call → List Call → Type 0
-AreJudged parts passes taken before after =
-    (names : List (List ℕ)) × HasCall (Gives names) before after × ((name : List ℕ) → Among name names → passes name ⊎ WasTaken parts after taken name)
+-- It gave only names that may be passed over.
+abbrev pub HasOnlyPassed : (List ℕ → Type 0) → List Call → List Call → Type 0
+HasOnlyPassed passes before after = (names : List (List ℕ)) × HasCall (Gives names) before after × ((name : List ℕ) → Among name names → passes name)
+
+-- the bytes of the files that were read, the newest first
+abbrev pub bytes_read : List Call → List (List ℕ)
+bytes_read [] = []
+bytes_read (Read name (Some (Some bytes)) ∷ earlier) = bytes ∷ bytes_read earlier
+bytes_read (call ∷ earlier) = bytes_read earlier

@@ -1,75 +1,137 @@
-//! How a part is put that is to go with those that are there.
-ghost use Rattle.std.specs.Prelude.{◌≡◌, List, ℕ, Some, OnOk, IfOk, IfErr};
-ghost use Rattle.folder_history.specs.Call.{Exclusive, lock_of};
+//! How a part is put that is to go with all that are there.
+ghost use Rattle.std.specs.Prelude.{◌≡◌, ◌++◌, List, ℕ, true, false, Some, None, map, IfOk, IfSome, OnErr};
+ghost use Rattle.std.specs.String.{string_bytes};
+ghost use Rattle.folder_history.specs.Call.{Call, Exclusive, lock_of};
+ghost use Rattle.folder_history.specs.Disk.{Among};
 ghost use Rattle.folder_history.specs.Parts.{Parts, IsNoPart};
-ghost use Rattle.folder_history.specs.Turn.{IsStored};
+ghost use Rattle.folder_history.specs.Turn.{Ready, IsStored, stage_of};
 ghost use Rattle.folder_protocol.specs.Goes.{GoesInTurn};
-ghost use Rattle.folder_protocol.specs.Causes.{LookCause, IsNamed};
-ghost use Rattle.folder_protocol.specs.Taking.{AreJudged, UntakenCause};
+ghost use Rattle.folder_protocol.specs.Causes.{Fails, HasCall, LookCause};
+ghost use Rattle.folder_protocol.specs.Taking.{HasListed, HasOnlyPassed};
 
 use crate::Folder;
-use crate::putting::{Outcome, put};
-use crate::taking::{Taker, Untaken, take_listed};
+use crate::putting::{Outcome, place, write_new};
+use crate::taking::Taker;
 use std::alloc::Global;
+use std::io;
 
-/// Puts a part of this name and with these bytes into a folder, by a temporary of a new name, if it goes with the parts that are there.
-/// Under the exclusive lock the folder is listed and the parts are taken that are wanted, by what judges them; then it is written, and
-/// given its name. If a part is refused, nothing is put.
+/// Puts a part of this name and with these bytes into a folder, by a temporary of a new name, if what judges the folder's parts wants
+/// none that is there: it has taken them before. The part is written first. Then, under the exclusive lock, the folder is listed, and the
+/// part is given its name.
+///
+/// None if a name is there that is wanted: nothing is put then. Take what came, and begin anew.
 pub fn put_judged<F: Folder, T: Taker>(
     alloc: Global,
     folder: &mut F,
     temporary: &str,
     name: &str,
     bytes: &[u8],
-    judge: &mut T,
-) -> Result<Outcome, Untaken<T::Fault>>
+    judge: &T,
+) -> io::Result<Option<Outcome>>
     // Each call is in turn.
     ensures in_turn { (parts : Parts) → name.now ≡ parts.name_of bytes.now → IsNoPart parts temporary.now → GoesInTurn parts (F.history folder.old) (F.history folder.new) }
     // Once it is on the disk it is stored.
-    ensures stored { (parts : Parts) → name.now ≡ parts.name_of bytes.now → IfOk result (λ how. how ≡ Outcome.OnDisk → IsStored parts bytes.now (F.history folder.new)) }
-    // Of what a listing gave each part was taken by what judges, or it may pass it over.
-    ensures judged { (parts : Parts) → name.now ≡ parts.name_of bytes.now → IsNoPart parts temporary.now → parts.name_of ≡ T.name_of judge.old → OnOk result (AreJudged parts (T.passes judge.old) (T.taken judge.new) (F.history folder.old) (F.history folder.new)) }
-    // Any other answer has its cause: a sync that failed, no file, or other bytes; and so has an error.
-    ensures cause { IfOk result (λ how. LookCause how name.now bytes.now (F.history folder.old) (F.history folder.new)) }
-    ensures fails { IfErr result (λ fault. UntakenCause fault (F.history folder.old) (F.history folder.new)) }
-    // The file was given its name, or another file had it.
-    ensures named { IfOk result (λ how. IsNamed how name.now (F.history folder.old) (F.history folder.new)) }
+    ensures stored { (parts : Parts) → name.now ≡ parts.name_of bytes.now → IsNoPart parts temporary.now → IfOk result (λ answer. answer ≡ Some Outcome.OnDisk → IsStored parts bytes.now (F.history folder.new)) }
+    // It was given its name only if all that a listing under the lock gave may be passed over.
+    ensures judged { (parts : Parts) → name.now ≡ parts.name_of bytes.now → IsNoPart parts temporary.now → IfOk result (λ answer. IfSome answer (λ how. HasOnlyPassed (T.passes judge.now) (F.history folder.old) (F.history folder.new))) }
+    // Any other answer has its cause: a sync that failed, no file, or other bytes; None a listing; and an error a call that failed.
+    ensures cause { IfOk result (λ answer. IfSome answer (λ how. LookCause how name.now bytes.now (F.history folder.old) (F.history folder.new))) }
+    ensures overtaken { IfOk result (λ answer. answer ≡ None → HasListed (F.history folder.old) (F.history folder.new)) }
+    ensures fails { OnErr result (HasCall Fails (F.history folder.old) (F.history folder.new)) }
 {
-    match folder.lock() {
-        Ok(()) => {
-            let outcome = judge_and_put(alloc, folder, temporary, name, bytes, judge);
-            folder.unlock();
-            outcome
+    match write_new(folder, temporary, bytes) {
+        Ok(()) => lock_and_put(alloc, folder, temporary, name, bytes, judge),
+        Err(error) => {
+            let _ = folder.remove(temporary);
+            Err(error)
         }
-        Err(error) => Err(Untaken::Failed(error)),
     }
 }
 
-/// The same under the lock.
-fn judge_and_put<F: Folder, T: Taker>(
+/// The same once the temporary is written.
+fn lock_and_put<F: Folder, T: Taker>(
     alloc: Global,
     folder: &mut F,
     temporary: &str,
     name: &str,
     bytes: &[u8],
-    judge: &mut T,
-) -> Result<Outcome, Untaken<T::Fault>>
-    ensures in_turn { (parts : Parts) → name.now ≡ parts.name_of bytes.now → IsNoPart parts temporary.now → lock_of (F.history folder.old) ≡ Some Exclusive → GoesInTurn parts (F.history folder.old) (F.history folder.new) }
-    ensures stored { (parts : Parts) → name.now ≡ parts.name_of bytes.now → IfOk result (λ how. how ≡ Outcome.OnDisk → IsStored parts bytes.now (F.history folder.new)) }
-    ensures judged { (parts : Parts) → name.now ≡ parts.name_of bytes.now → IsNoPart parts temporary.now → parts.name_of ≡ T.name_of judge.old → OnOk result (AreJudged parts (T.passes judge.old) (T.taken judge.new) (F.history folder.old) (F.history folder.new)) }
-    ensures cause { IfOk result (λ how. LookCause how name.now bytes.now (F.history folder.old) (F.history folder.new)) }
-    ensures fails { IfErr result (λ fault. UntakenCause fault (F.history folder.old) (F.history folder.new)) }
-    ensures named { IfOk result (λ how. IsNamed how name.now (F.history folder.old) (F.history folder.new)) }
+    judge: &T,
+) -> io::Result<Option<Outcome>>
+    ensures in_turn { (parts : Parts) → name.now ≡ parts.name_of bytes.now → IsNoPart parts temporary.now → stage_of parts (F.history folder.old) ≡ Ready temporary.now bytes.now → GoesInTurn parts (F.history folder.old) (F.history folder.new) }
+    ensures stored { (parts : Parts) → name.now ≡ parts.name_of bytes.now → stage_of parts (F.history folder.old) ≡ Ready temporary.now bytes.now → IfOk result (λ answer. answer ≡ Some Outcome.OnDisk → IsStored parts bytes.now (F.history folder.new)) }
+    ensures judged { (parts : Parts) → name.now ≡ parts.name_of bytes.now → IsNoPart parts temporary.now → stage_of parts (F.history folder.old) ≡ Ready temporary.now bytes.now → IfOk result (λ answer. IfSome answer (λ how. HasOnlyPassed (T.passes judge.now) (F.history folder.old) (F.history folder.new))) }
+    ensures cause { IfOk result (λ answer. IfSome answer (λ how. LookCause how name.now bytes.now (F.history folder.old) (F.history folder.new))) }
+    ensures overtaken { IfOk result (λ answer. answer ≡ None → HasListed (F.history folder.old) (F.history folder.new)) }
+    ensures fails { OnErr result (HasCall Fails (F.history folder.old) (F.history folder.new)) }
 {
-    let listed = match folder.list(alloc) {
-        Ok(listed) => listed,
-        Err(error) => return Err(Untaken::Failed(error)),
-    };
-    match take_listed(alloc, folder, judge, listed.as_slice()) {
-        Ok(()) => match put(alloc, folder, temporary, name, bytes) {
-            Ok(outcome) => Ok(outcome),
-            Err(error) => Err(Untaken::Failed(error)),
-        },
-        Err(fault) => Err(fault),
+    match folder.lock() {
+        Ok(()) => {
+            let outcome = look_and_put(alloc, folder, temporary, name, bytes, judge);
+            folder.unlock();
+            outcome
+        }
+        Err(error) => {
+            let _ = folder.remove(temporary);
+            Err(error)
+        }
     }
+}
+
+/// The same under the lock.
+fn look_and_put<F: Folder, T: Taker>(
+    alloc: Global,
+    folder: &mut F,
+    temporary: &str,
+    name: &str,
+    bytes: &[u8],
+    judge: &T,
+) -> io::Result<Option<Outcome>>
+    ensures in_turn { (parts : Parts) → name.now ≡ parts.name_of bytes.now → IsNoPart parts temporary.now → stage_of parts (F.history folder.old) ≡ Ready temporary.now bytes.now → lock_of (F.history folder.old) ≡ Some Exclusive → GoesInTurn parts (F.history folder.old) (F.history folder.new) }
+    ensures stored { (parts : Parts) → name.now ≡ parts.name_of bytes.now → stage_of parts (F.history folder.old) ≡ Ready temporary.now bytes.now → IfOk result (λ answer. answer ≡ Some Outcome.OnDisk → IsStored parts bytes.now (F.history folder.new)) }
+    ensures judged { (parts : Parts) → name.now ≡ parts.name_of bytes.now → IsNoPart parts temporary.now → stage_of parts (F.history folder.old) ≡ Ready temporary.now bytes.now → IfOk result (λ answer. IfSome answer (λ how. HasOnlyPassed (T.passes judge.now) (F.history folder.old) (F.history folder.new))) }
+    ensures cause { IfOk result (λ answer. IfSome answer (λ how. LookCause how name.now bytes.now (F.history folder.old) (F.history folder.new))) }
+    ensures overtaken { IfOk result (λ answer. answer ≡ None → HasListed (F.history folder.old) (F.history folder.new)) }
+    ensures fails { OnErr result (HasCall Fails (F.history folder.old) (F.history folder.new)) }
+{
+    match is_judged(alloc, folder, judge) {
+        Ok(true) => match place(alloc, folder, temporary, name, bytes) {
+            Ok(outcome) => Ok(Some(outcome)),
+            Err(error) => Err(error),
+        },
+        Ok(false) => {
+            let _ = folder.remove(temporary);
+            Ok(None)
+        }
+        Err(error) => {
+            let _ = folder.remove(temporary);
+            Err(error)
+        }
+    }
+}
+
+/// Whether no name is wanted of a folder of which the exclusive lock is held.
+fn is_judged<F: Folder, T: Taker>(alloc: Global, folder: &mut F, judge: &T) -> io::Result<bool>
+    ensures in_turn { (parts : Parts) → lock_of (F.history folder.old) ≡ Some Exclusive → GoesInTurn parts (F.history folder.old) (F.history folder.new) }
+    ensures follows { (calls : List Call) × (F.history folder.new ≡ calls ++ F.history folder.old) }
+    ensures stays { (parts : Parts) → stage_of parts (F.history folder.new) ≡ stage_of parts (F.history folder.old) }
+    ensures judged { IfOk result (λ passed. passed ≡ true → HasOnlyPassed (T.passes judge.now) (F.history folder.old) (F.history folder.new)) }
+    ensures listed { IfOk result (λ passed. HasListed (F.history folder.old) (F.history folder.new)) }
+    ensures fails { OnErr result (HasCall Fails (F.history folder.old) (F.history folder.new)) }
+{
+    let listed = folder.list(alloc)?;
+    Ok(wants_none(judge, listed.as_slice()))
+}
+
+/// Whether none of these names is wanted.
+fn wants_none<T: Taker>(judge: &T, names: &[String]) -> bool
+    ensures { result ≡ true → (name : List ℕ) → Among name (map string_bytes names.now) → T.passes judge.now name }
+{
+    let mut at = 0;
+    while at < names.len() {
+        if judge.wants(names[at].as_str()) {
+            return false;
+        }
+        at += 1;
+    }
+    true
 }

@@ -79,7 +79,7 @@ fn write_all<F: Folder>(folder: &mut F, bytes: &[u8]) -> io::Result<()>
 }
 
 /// Gives the file its name, unless there is one already, which is kept.
-fn place<F: Folder>(
+pub fn place<F: Folder>(
     alloc: Global,
     folder: &mut F,
     temporary: &str,
