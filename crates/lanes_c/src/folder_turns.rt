@@ -159,7 +159,7 @@ pub extern "C" fn lanes_folder_name(
     }
 }
 
-/// The answer of a number, with what it has with it. Each number that is none of an answer says that the call failed.
+/// The answer of a number, with what it has with it. Each other number says that the call failed.
 fn answer_of(
     alloc: Global,
     turn: &mut Turn,
