@@ -45,6 +45,7 @@ extern "C" {
  *   LANES_OUT_OF_TYPE   first: the row, from 0; second: the column, from 0
  *   LANES_BAD_CSV       first: the line, from 1; second: its field, from 1, or 0 for a wrong number of fields
  *   LANES_LINE_TOO_LONG first: the line, from 1
+ *   LANES_SYSTEM        first: the system's number for the reason, as errno has it, or 0
  *   each refusal of a query of lanes_queries
  *                       second: the query, from 0
  *   each refusal of a summary of lanes_finish_expected
@@ -106,7 +107,10 @@ enum {
     LANES_NOT_APART = 40,
     LANES_QUERY_DIFFERS = 41,
     LANES_TOO_MANY = 42,
-    LANES_MISSING = 43
+    LANES_MISSING = 43,
+    LANES_BUSY = 44,
+    LANES_DAMAGED = 45,
+    LANES_SYSTEM = 46
 };
 
 /* Makes the file of an empty table. The words are the table's name and, column by column, the column's name and its type, with one
@@ -422,6 +426,159 @@ uint8_t lanes_table_forget(lanes_table *table, lanes_place *place);
 
 /* Closes a handle. Closing a closed one does nothing. */
 void lanes_close(lanes_table *table);
+
+/* A folder of parts, as docs/FOLDERS.md has it: each part is a column file whose name is a digest of its bytes. Any number of processes may
+ * change and read one folder at once, and each may be killed at any moment, also by a loss of power.
+ *
+ * The library makes no call on a folder. It says which call comes next, the program makes it, and tells what came of it. What is asked for
+ * is proved to be in turn after what was told, so that nothing is lost that was once on the disk: docs/FOLDERS.md says what is meant.
+ *
+ *     lanes_turn turn = LANES_NO_TURN;
+ *     number = lanes_folder_begin(LANES_FOLDER_PUT, temporary, temporary_length, part, part_length, &turn, &place);
+ *     answer = LANES_NOTHING;
+ *     while (!(number = lanes_folder_next(&turn, answer, told, bytes, bytes_length, &call, names, sizeof names, &length, &place))
+ *            && call.kind != LANES_ENDED)
+ *         answer = ...;                             the call that `call` asks for is made
+ *     lanes_folder_end(&turn);
+ *
+ * c/lanes_folder_driver.c makes the calls by POSIX. A program that makes its own must keep these rules:
+ *
+ *   - Make the calls that are asked for, and no others, on this folder, and tell of each what came of it. A call that failed may have been
+ *     done or not; both are told as LANES_FAILED.
+ *   - Wait at most ten seconds for a lock. Then tell LANES_FAILED with EAGAIN.
+ *   - A file is listed that was there when the listing began, unless it was removed meanwhile. List twice, and give the names of both.
+ *   - A folder is locked by flock, and the lock is not shared with a call of another turn.
+ *   - A turn that can't go on may be ended at any time. Remove its temporary then, if it was made.
+ *
+ * A handle of a turn is as one of a table: set it to LANES_NO_TURN before its first use, don't copy it, give it to one call at a time, and
+ * end each turn. Leave it on its thread.
+ */
+typedef struct lanes_turn {
+    void *begun;
+} lanes_turn;
+
+/* A handle without a turn. */
+#ifdef __cplusplus
+#define LANES_NO_TURN (lanes_turn{})
+#else
+#define LANES_NO_TURN ((lanes_turn){NULL})
+#endif
+
+/* The commands of lanes_folder_begin. */
+enum {
+    /* put a part */
+    LANES_FOLDER_PUT = 1,
+    /* have a part on the disk that is there with these bytes */
+    LANES_FOLDER_KEEP = 2,
+    /* put a part in the place of parts that were read and whose content it has: a pack, or a forget */
+    LANES_FOLDER_REPLACE = 3,
+    /* remove parts that were read and whose content the part has, if the part is there */
+    LANES_FOLDER_REMOVE = 4,
+    /* list the names of the parts */
+    LANES_FOLDER_LIST = 5,
+    /* have parts on the disk that are there; all of them are read, and kept until the turn is ended */
+    LANES_FOLDER_KEEP_ALL = 6
+};
+
+/* What a call of lanes_folder_next asks for. */
+enum {
+    /* nothing: the command has come to its end, and number is one of those below */
+    LANES_ENDED = 0,
+    /* make a file of this name, which nothing has, and open it */
+    LANES_CALL_MAKE = 1,
+    /* add bytes of the part to the open file, from the byte `number` on: as many as the system takes */
+    LANES_CALL_WRITE = 2,
+    /* sync the open file */
+    LANES_CALL_SYNC = 3,
+    /* give the file of the first name the second one, unless something has that; `number` is the length of the first name */
+    LANES_CALL_LINK = 4,
+    /* remove the name; it is no failure if it is gone */
+    LANES_CALL_REMOVE = 5,
+    /* sync the folder */
+    LANES_CALL_SETTLE = 6,
+    /* take the folder's exclusive lock */
+    LANES_CALL_LOCK = 7,
+    /* take the folder's shared lock; if the file system has no locks, go without */
+    LANES_CALL_LOCK_SHARED = 8,
+    /* list the names in the folder, and tell those of parts by lanes_folder_name */
+    LANES_CALL_LIST = 9,
+    /* open the file of this name, and read it whole; it is the open file then */
+    LANES_CALL_READ = 10,
+    /* let the lock go */
+    LANES_CALL_UNLOCK = 11
+};
+
+/* What is told of a call. */
+enum {
+    /* nothing: the same call is asked for again, or at first the first one */
+    LANES_NOTHING = 0,
+    LANES_DONE = 1,
+    /* it failed, with `number` as errno has it, or 0 */
+    LANES_FAILED = 2,
+    /* something has the second name of LANES_CALL_LINK */
+    LANES_TAKEN = 3,
+    /* LANES_CALL_WRITE wrote `number` bytes */
+    LANES_WROTE = 4,
+    /* all names of LANES_CALL_LIST were told by lanes_folder_name */
+    LANES_LISTED = 5,
+    /* LANES_CALL_READ found no file */
+    LANES_NO_FILE = 6,
+    /* LANES_CALL_READ found `bytes` */
+    LANES_FOUND = 7
+};
+
+/* What a command has come to. */
+enum {
+    /* names were listed, or parts are kept */
+    LANES_FOLDER_DONE = 0,
+    /* the part is on the disk; of LANES_FOLDER_REPLACE and LANES_FOLDER_REMOVE the others are removed */
+    LANES_ON_DISK = 1,
+    /* the part is there, and it or the folder could not be synced, so a loss of power may take it away; nothing was removed */
+    LANES_UNSYNCED = 2,
+    /* a part is gone that was there: another process has packed the folder. Nothing was removed; begin anew, from what is there now */
+    LANES_GONE = 3
+};
+
+/* A call on a folder. */
+typedef struct lanes_call {
+    uint64_t kind;
+    uint64_t number;
+} lanes_call;
+
+/* Begins a turn. `temporary` is the name of a new temporary: ".part-" and 16 hexadecimal digits, drawn at random for each turn. `part` are
+ * the bytes of the part, which are copied. A command that has no use for them may be given no bytes. A number that is no command's lists.
+ *
+ * A turn that the handle had is ended, when 0 is answered. When the call is refused the handle is as it was.
+ * Refused: LANES_SYNTAX when the name is no text. */
+uint8_t lanes_folder_begin(uint8_t command, const uint8_t *temporary, size_t temporary_length, const uint8_t *part, size_t part_length,
+                           lanes_turn *turn, lanes_place *place);
+
+/* Adds a name. Before the first call of lanes_folder_next it is that of a part which the command is about: one that is replaced, removed or
+ * kept. After that it is one that LANES_CALL_LIST gave.
+ *
+ * Refused: LANES_NOT_OPEN when there is no turn; LANES_SYNTAX when the name is no text, so that it is no part's. */
+uint8_t lanes_folder_name(const uint8_t *name, size_t name_length, lanes_turn *turn, lanes_place *place);
+
+/* Tells what came of the call that was asked for, and asks for the next one: `call` has its kind and its number, and `out` its names, one
+ * after the other. The names are the one of the temporary, that of the part, which has 38 bytes, and those of lanes_folder_name. If they
+ * don't fit, call again with more room and LANES_NOTHING.
+ *
+ * Each call costs the time of all calls before it, as the protocol runs from its beginning over what was told. So a turn that removes many
+ * parts is better split.
+ * Refused: LANES_NOT_OPEN when there is no turn; LANES_BUSY when others have the folder's lock; LANES_DAMAGED when the file of the part's
+ * name has other bytes; LANES_SYSTEM when another call failed, so that the command has. Then the command has come to its end. */
+uint8_t lanes_folder_next(lanes_turn *turn, uint8_t answer, uint64_t number, const uint8_t *bytes, size_t bytes_length, lanes_call *call,
+                          uint8_t *out, size_t room, size_t *length, lanes_place *place);
+
+/* Ends a turn. Ending none does nothing. */
+void lanes_folder_end(lanes_turn *turn);
+
+/* Gives the name that a part with these bytes has: the first 32 hexadecimal digits of their SHA-512, and ".lanes". A file of another name
+ * than its bytes have is damaged.
+ *
+ * Gives: 38 bytes.
+ * Refused: nothing but LANES_MEMORY. */
+uint8_t lanes_part_name(const uint8_t *part, size_t part_length, uint8_t *out, size_t room, size_t *length, lanes_place *place);
 
 /* Gives the name of a refusal's number, as "NotCanonical", without a byte 0 at its end, and answers how many bytes it has: 0 if the
  * number has no name. It is written if it fits. No name has more than 32 bytes. */

@@ -15,7 +15,7 @@ _NUMBERS = {
     **dict.fromkeys(
         ["WrongArity", "Truncated", "BadOrder", "BadCount", "BadWidth", "BadTag", "BadMask", "BadDictionary", "BadCode", "BadRange"], 1
     ),
-    **dict.fromkeys(["TrailingBytes", "NotCanonical", "Syntax", "NoSuchColumn", "NotGrouped", "NumberTooLarge", "LineTooLong"], 1),
+    **dict.fromkeys(["TrailingBytes", "NotCanonical", "Syntax", "NoSuchColumn", "NotGrouped", "NumberTooLarge", "LineTooLong", "System"], 1),
 }
 
 
@@ -28,7 +28,7 @@ class Refused(Error, ValueError):
     """A call was refused, and changed nothing. If memory ran out it is an `OutOfMemory`. docs/REFUSALS.md says of each refusal what to do.
 
     Attributes:
-        number: the refusal's number, from 1 to 43.
+        number: the refusal's number, from 1 to 46.
         name: its name, as `Syntax`.
         place: where, as the name explains it: `(7,)` is a byte from 0, for `Conflict`, `NotApart` and `Missing` it is the batch's origin and number, and for `BadCsv`
             the line and its field, from 1. It is empty if the refusal has no place.

@@ -2,6 +2,7 @@
 
 from __future__ import annotations
 
+import contextlib
 import errno
 import fcntl
 import html
@@ -9,7 +10,7 @@ import os
 import struct
 from typing import Any, Callable, Iterable, Mapping, NamedTuple, Optional, Tuple, TypeVar, Union
 
-from . import arguments, calls, part_folder
+from . import arguments, calls, folder_driver, part_folder
 from .answer import Answer
 from .batch_name import GivenName
 from .errors import Busy, Refused
@@ -297,7 +298,7 @@ class Folder:
             try:
                 return look(names), names
             except FileNotFoundError as gone:
-                if part_folder.leads_nowhere(gone.filename):
+                if folder_driver.leads_nowhere(gone.filename):
                     raise
             wait.again()
 
@@ -391,21 +392,16 @@ class Folder:
         Raises:
             Refused: `Conflict`.
         """
-        data = part.to_bytes()
-        name = part_folder.part_name(data)
-        temporary = part_folder.Temporary(self.path, data)
-        try:
-            with part_folder.locked(self.path, fcntl.LOCK_EX):
-                since = [name for name in part_folder.names_in(self.path) if name not in names]
+        with contextlib.ExitStack() as held:
+
+            def judge() -> None:
+                held.close()
+                held.enter_context(part_folder.locked(self.path, fcntl.LOCK_EX))
+                since = [name for name in folder_driver.names_in(self.path) if name not in names]
                 if since:
                     part.merge(self._join(since))
-                if not temporary.place(name) and not part_folder.keep(self.path, name):
-                    raise Busy("the part comes and goes", self.path)
-        except BaseException:
-            temporary.discard()
-            raise
-        finally:
-            temporary.close()
+
+            part_folder.put(self.path, part.to_bytes(), judge)
 
     def _settle(self, names: list[str]) -> bool:
         """Has the parts of these names on the disk, of which a call answers that they hold already what it was to add. False if a pack was
@@ -439,7 +435,7 @@ class Folder:
         try:
             joined = self._join(names)
         except FileNotFoundError as gone:
-            if part_folder.leads_nowhere(gone.filename):
+            if folder_driver.leads_nowhere(gone.filename):
                 raise
             return None
         return part_folder.replace(self.path, joined.to_bytes(), names)

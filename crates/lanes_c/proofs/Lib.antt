@@ -16,3 +16,5 @@ pub mod Expectations
 pub mod InputFaults
 pub mod InputLoads
 pub mod SaidAgain
+pub mod TurnHandleFields
+pub mod TurnSteps

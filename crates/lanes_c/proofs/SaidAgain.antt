@@ -13,7 +13,7 @@ use Rattle.lanes_c.specs.declared.fault.Place.{Place}
 use Rattle.lanes_c.specs.declared.fault.Fault.{Fault}
 use Rattle.lanes_c.specs.declared.fault.Fault.TheVariants as faults
 use Rattle.lanes_c.specs.Faults.{pair, place_of, number_of_fault, place_of_fault}
-use Rattle.lanes_c.specs.Names.{batch_of, refusal_at, own_refusal_at, or_own, command_refusal_at, refusal_of_fault, IsShort, HasShort, HasOne, IsTold, SaysAgain, IsSentenceOf}
+use Rattle.lanes_c.specs.Names.{batch_of, refusal_at, own_refusal_at, or_own, command_refusal_at, refusal_of_fault, IsShort, HasShort, HasOne, IsTold, SaysAgain, own_sentence, IsSentenceOf}
 
 -- numbers of 32 bits are as they were
 batch_again : (name : BatchName) → IsShort name → batch_of (pair name.origin.0 name.number.0) ≡ name
@@ -117,6 +117,9 @@ said_again (faults.NotApart name) told = ap (λ (b : BatchName). Some (commands.
 said_again faults.QueryDiffers told = refl
 said_again faults.TooMany told = refl
 said_again (faults.Missing name) told = ap (λ (b : BatchName). Some (commands.Missing b)) (batch_again name told)
+said_again faults.Busy told = refl
+said_again faults.Damaged told = refl
+said_again (faults.System code) told = refl
 
 pub says_again : (number : ℕ) (place : Place) (said : Option CommandRefusal) → said ≡ command_refusal_at number place → SaysAgain number place said
 says_again number place said is fault told n p = is ∙ (λ i. command_refusal_at (sym n i) (sym p i)) ∙ said_again fault told
@@ -150,17 +153,31 @@ no_refusal n place (inr past) = none_past n place past
 -- ---- sentences
 
 pub nothing_said : (number : ℕ) → IsSentenceOf number []
-nothing_said number = ((λ closed. inl refl), (λ none. refl))
+nothing_said number = ((λ owned. inl refl), (λ none. refl))
 
-pub closed_said : (number : ℕ) (text : List ℕ) → number ≡ 39 → text ≡ codes "no file is open in this handle" → IsSentenceOf number text
-closed_said number text closed is = ((λ same. inr is), no)
+pub own_said : (number : ℕ) (text : List ℕ) → (number ≡ 39) ⊎ ((43 < number) × (number < 47)) → text ≡ own_sentence number → IsSentenceOf number text
+own_said number text owned is = ((λ same. inr is), no owned)
   where
-    no : (number ≡ 0) ⊎ (43 < number) → text ≡ []
-    no (inl zero) = absurd (omega (arith, zero, closed))
-    no (inr past) = absurd (omega (arith, past, closed))
+    no : (number ≡ 39) ⊎ ((43 < number) × (number < 47)) → (number ≡ 0) ⊎ (46 < number) → text ≡ []
+    no (inl closed) (inl zero) = absurd (omega (arith, zero, closed))
+    no (inl closed) (inr past) = absurd (omega (arith, past, closed))
+    no (inr between) (inl zero) = absurd (omega (arith, zero, between.0))
+    no (inr between) (inr past) = absurd (omega (arith, past, between.1))
 
 one_is_there : (said : Option CommandRefusal) (refusal : CommandRefusal) → said ≡ Some refusal → said ≡ None → ⊥
 one_is_there said refusal some none = cc
 
-pub other_said : (number : ℕ) (said : Option CommandRefusal) (refusal : CommandRefusal) (text : List ℕ) → ((number ≡ 39) → ⊥) → said ≡ Some refusal → ((number ≡ 0) ⊎ (43 < number) → said ≡ None) → IsSentenceOf number text
-other_said number said refusal text opened is none = ((λ closed. absurd (opened closed)), (λ no. absurd (one_is_there said refusal is (none no))))
+-- what is past 46 is past 43
+past_all : (number : ℕ) → (number ≡ 0) ⊎ (46 < number) → (number ≡ 0) ⊎ (43 < number)
+past_all number (inl zero) = inl zero
+past_all number (inr past) = inr (omega (arith, past))
+
+-- it is none of those that have a sentence of their own
+none_owned : (number : ℕ) {X : Type 0} → (number ≡ 39 → ⊥) → ((43 < number) × (number < 47) → ⊥) → (number ≡ 39) ⊎ ((43 < number) × (number < 47)) → X
+none_owned number opened apart (inl closed) = absurd (opened closed)
+none_owned number opened apart (inr between) = absurd (apart between)
+
+pub other_said : (number : ℕ) (said : Option CommandRefusal) (refusal : CommandRefusal) (text : List ℕ) → (number ≡ 39 → ⊥) → ((43 < number) × (number < 47) → ⊥) → said ≡ Some refusal
+    → ((number ≡ 0) ⊎ (43 < number) → said ≡ None) → IsSentenceOf number text
+other_said number said refusal text opened apart is none =
+    ((λ owned. none_owned number opened apart owned), (λ no. absurd (one_is_there said refusal is (none (past_all number no)))))

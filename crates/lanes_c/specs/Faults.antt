@@ -13,6 +13,8 @@ use Rattle.partial_commands.specs.declared.partial_answer_error.PartialAnswerErr
 use Rattle.partial_commands.specs.declared.partial_answer_error.PartialAnswerError.TheVariants as errors
 use Rattle.csv_rows.specs.declared.error.CsvError.{CsvError}
 use Rattle.csv_rows.specs.declared.error.CsvError.TheVariants as csv
+use Rattle.folder_replay.specs.declared.replay.Fault.{Fault as ReplayFault}
+use Rattle.folder_replay.specs.declared.replay.Fault.TheVariants as replay
 use Rattle.live_columns.specs.declared.choice.Unchosen.{Unchosen}
 use Rattle.live_columns.specs.declared.choice.Unchosen.TheVariants as unchosen
 use Rattle.lanes_c.specs.declared.fault.Place.{Place}
@@ -39,7 +41,8 @@ numbers_of (named.Byte at) = pair at 0
 abbrev pub place_of : Refusal → Place
 place_of refusal = numbers_of (named_by refusal)
 
--- the number of a fault: a refusal's own, 38 for comma-separated values outside the grammar, 39 for a closed handle, and 40 to 43 for partial answers
+-- the number of a fault: a refusal's own, 38 for comma-separated values outside the grammar, 39 for a closed handle, 40 to 43 for partial answers, and 44 to
+-- 46 for folders
 abbrev pub number_of_fault : Fault → ℕ
 number_of_fault (faults.Refused refusal) = number_of refusal
 number_of_fault (faults.BadCsv line column) = 38
@@ -52,6 +55,9 @@ number_of_fault faults.QueryDiffers = 41
 number_of_fault faults.TooMany = 42
 number_of_fault (faults.OfSummary refusal summary) = number_of refusal
 number_of_fault (faults.Missing name) = 43
+number_of_fault faults.Busy = 44
+number_of_fault faults.Damaged = 45
+number_of_fault (faults.System code) = 46
 
 -- the place of a fault; next to the byte, that of one query of several has the query, from 0, that of one summary of several the summary, from 1, and that
 -- of the names of columns 1
@@ -67,6 +73,9 @@ place_of_fault faults.QueryDiffers = nowhere
 place_of_fault faults.TooMany = nowhere
 place_of_fault (faults.OfSummary refusal summary) = pair (place_of refusal).first summary
 place_of_fault (faults.Missing name) = pair name.origin.0 name.number.0
+place_of_fault faults.Busy = nowhere
+place_of_fault faults.Damaged = nowhere
+place_of_fault (faults.System code) = pair code 0
 
 -- a refusal as that of one query of several
 abbrev pub of_query : Fault → ℕ → Fault
@@ -113,3 +122,8 @@ abbrev pub told_of_expectation : ExpectationError → Fault
 told_of_expectation expectations.SchemaDiffers = faults.Refused refusals.SchemaDiffers
 told_of_expectation (expectations.Missing name) = faults.Missing name
 told_of_expectation (expectations.Unanswered e) = told_of_partial_answer e
+
+-- what C gets of a turn at a folder that can't go on
+abbrev pub told_of_replay : ReplayFault → Fault
+told_of_replay replay.OutOfMemory = faults.Refused refusals.Memory
+told_of_replay replay.Strayed = faults.System 0

@@ -4,6 +4,7 @@ pub mod ColumnCalls
 pub mod Coverage
 pub mod Expecting
 pub mod Faults
+pub mod FolderTurns
 pub mod Handles
 pub mod HeldRows
 pub mod Importing
@@ -17,3 +18,4 @@ pub mod Spreading
 pub mod TableChanges
 pub mod TableReading
 pub mod Taking
+pub mod TurnHandles

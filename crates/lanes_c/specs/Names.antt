@@ -13,15 +13,17 @@ use Rattle.lanes_c.specs.declared.fault.Place.{Place}
 use Rattle.lanes_c.specs.declared.fault.Fault.{Fault}
 use Rattle.lanes_c.specs.declared.fault.Fault.TheVariants as faults
 
--- the name of a number that is none of a refusal's of the table's own calls: of 38 to 43
+-- the name of a number that is none of a refusal's of the table's own calls: of 38 to 46
 abbrev pub own_name : ℕ → List ℕ
 own_name n =
     cond (n == 38) (codes "BadCsv")
     (cond (n == 39) (codes "NotOpen")
     (cond (n == 40) (codes "NotApart")
-    (cond (n == 41) (codes "QueryDiffers") (cond (n == 42) (codes "TooMany") (cond (n == 43) (codes "Missing") [])))))
+    (cond (n == 41) (codes "QueryDiffers")
+    (cond (n == 42) (codes "TooMany")
+    (cond (n == 43) (codes "Missing") (cond (n == 44) (codes "Busy") (cond (n == 45) (codes "Damaged") (cond (n == 46) (codes "System") []))))))))
 
--- a text is the name of a refusal's number, from 1 to 43; other numbers have none
+-- a text is the name of a refusal's number, from 1 to 46; other numbers have none
 abbrev pub IsNameOf : ℕ → List ℕ → Type 0
 IsNameOf number name =
     ((refusal : Refusal) × (number_of refusal ≡ number) × (name ≡ refusal_name refusal))
@@ -102,7 +104,7 @@ or_own None other = other
 abbrev pub command_refusal_at : ℕ → Place → Option CommandRefusal
 command_refusal_at n place = or_own (refusal_at n place) (own_refusal_at n place)
 
--- the refusal of a fault, as its sentence says it; a closed handle has a sentence of its own
+-- the refusal of a fault, as its sentence says it; a closed handle and the faults of folders have sentences of their own
 abbrev pub refusal_of_fault : Fault → Option CommandRefusal
 refusal_of_fault (faults.Refused refusal) = Some (commands.Named refusal)
 refusal_of_fault (faults.BadCsv line column) = Some (commands.BadCsv line column)
@@ -115,6 +117,9 @@ refusal_of_fault faults.QueryDiffers = Some commands.QueryDiffers
 refusal_of_fault faults.TooMany = Some commands.TooMany
 refusal_of_fault (faults.OfSummary refusal summary) = Some (commands.Named refusal)
 refusal_of_fault (faults.Missing name) = Some (commands.Missing name)
+refusal_of_fault faults.Busy = None
+refusal_of_fault faults.Damaged = None
+refusal_of_fault (faults.System code) = None
 
 -- a batch's numbers have 32 bits
 abbrev pub IsShort : BatchName → Type 0
@@ -146,9 +151,17 @@ IsTold other = Unit {0}
 abbrev pub SaysAgain : ℕ → Place → Option CommandRefusal → Type 0
 SaysAgain number place said = (fault : Fault) → IsTold fault → number_of_fault fault ≡ number → place_of_fault fault ≡ place → said ≡ refusal_of_fault fault
 
--- A text is a sentence of a number: there is one of a closed handle, and numbers past 43, and 0, have none. It may be empty, as memory may run
--- out. Nothing is said of the words of the others.
+-- the sentence of a closed handle and of each fault of a folder
+abbrev pub own_sentence : ℕ → List ℕ
+own_sentence n =
+    cond (n == 39) (codes "no file is open in this handle")
+    (cond (n == 44) (codes "others have had the folder for ten seconds")
+    (cond (n == 45) (codes "its bytes are not those of its name: copy it again, or remove it")
+    (cond (n == 46) (codes "the system refused a call on the folder") [])))
+
+-- A text is a sentence of a number: there is one of a closed handle and of each fault of a folder, and numbers past 46, and 0, have none. It may be empty,
+-- as memory may run out. Nothing is said of the words of the others.
 abbrev pub IsSentenceOf : ℕ → List ℕ → Type 0
 IsSentenceOf number text =
-    ((number ≡ 39) → (text ≡ []) ⊎ (text ≡ codes "no file is open in this handle"))
-    × ((number ≡ 0) ⊎ (43 < number) → text ≡ [])
+    ((number ≡ 39) ⊎ ((43 < number) × (number < 47)) → (text ≡ []) ⊎ (text ≡ own_sentence number))
+    × ((number ≡ 0) ⊎ (46 < number) → text ≡ [])

@@ -1,10 +1,11 @@
 //! Why a call gave nothing, as C gets it: a number and a place.
 ghost use Rattle.std.specs.Prelude.{◌≡◌};
-ghost use Rattle.lanes_c.specs.Faults.{number_of_fault, place_of, place_of_fault, in_names, nowhere, of_query, pair, told, told_of_choice, told_of_csv, told_of_expectation, told_of_partial_answer, told_of_partial_answers};
+ghost use Rattle.lanes_c.specs.Faults.{number_of_fault, place_of, place_of_fault, in_names, nowhere, of_query, pair, told, told_of_choice, told_of_csv, told_of_expectation, told_of_partial_answer, told_of_partial_answers, told_of_replay};
 ghost use Rattle.lanes_c.specs.declared.fault.Fault.TheVariants.{Refused};
 ghost use Rattle.table_model.specs.declared.refusal.Refusal.TheVariants.{Memory};
 
 use csv_rows::CsvError;
+use folder_replay::Fault as ReplayFault;
 use live_columns::Unchosen;
 use partial_answers::PartialAnswerFault;
 use partial_commands::{ExpectationError, PartialAnswerError};
@@ -47,6 +48,12 @@ pub enum Fault {
     TooMany,
     /// A batch that a summary names was not counted; the least.
     Missing(BatchName),
+    /// Others have had a folder for too long.
+    Busy,
+    /// A part of a folder has other bytes than its name says.
+    Damaged,
+    /// A call on a folder failed: the system's number for the reason, or 0 if it gave none.
+    System { code: u64 },
 }
 
 /// A refusal as it is reported: a write into memory fails only if memory runs out.
@@ -138,6 +145,17 @@ impl From<ExpectationError> for Fault {
     }
 }
 
+impl From<ReplayFault> for Fault {
+    ghost from_gives = { λ given fault. fault ≡ told_of_replay given };
+
+    fn from(given: ReplayFault) -> Fault {
+        match given {
+            ReplayFault::OutOfMemory => Fault::Refused(Refusal::Memory),
+            ReplayFault::Strayed => Fault::System { code: 0 },
+        }
+    }
+}
+
 /// The number of `BadCsv`, which is no refusal of the table's own calls.
 const BAD_CSV: u8 = 38;
 
@@ -155,6 +173,15 @@ const TOO_MANY: u8 = 42;
 
 /// The number of `Missing`, which is no refusal of the table's own calls.
 const MISSING: u8 = 43;
+
+/// The number of `Busy`, which is no refusal of the table's own calls.
+pub const BUSY: u8 = 44;
+
+/// The number of `Damaged`, which is no refusal of the table's own calls.
+pub const DAMAGED: u8 = 45;
+
+/// The number of `System`, which is no refusal of the table's own calls.
+pub const SYSTEM: u8 = 46;
 
 impl Place {
     /// No place.
@@ -215,6 +242,9 @@ impl Fault {
             Fault::QueryDiffers => QUERY_DIFFERS,
             Fault::TooMany => TOO_MANY,
             Fault::Missing(_) => MISSING,
+            Fault::Busy => BUSY,
+            Fault::Damaged => DAMAGED,
+            Fault::System { .. } => SYSTEM,
         }
     }
 
@@ -262,7 +292,9 @@ impl Fault {
                 second: summary,
             },
             Fault::NotApart(name) | Fault::Missing(name) => Place::of_batch(name),
-            Fault::NotOpen | Fault::QueryDiffers | Fault::TooMany => Place::nowhere(),
+            Fault::System { code } => Place::at(code),
+            Fault::NotOpen | Fault::QueryDiffers | Fault::TooMany | Fault::Busy | Fault::Damaged =>
+                Place::nowhere(),
         }
     }
 }

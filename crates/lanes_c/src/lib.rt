@@ -9,6 +9,7 @@ mod columns;
 mod coverage;
 mod expecting;
 mod fault;
+mod folder_turns;
 mod handle;
 mod held_rows;
 mod input_columns;
@@ -27,6 +28,7 @@ mod spreading;
 mod table_changes;
 mod table_reading;
 mod taking;
+mod turn_handle;
 
 pub use changing::{lanes_create, lanes_delete, lanes_forget, lanes_import};
 pub use column_import::lanes_table_import_columns;
@@ -34,6 +36,10 @@ pub use columns::{lanes_columns, lanes_columns_between, lanes_schema};
 pub use coverage::{lanes_inspect_partial, lanes_inspect_summary};
 pub use expecting::lanes_finish_expected;
 pub use fault::Place;
+pub use folder_turns::{
+    FolderCall, lanes_folder_begin, lanes_folder_end, lanes_folder_name, lanes_folder_next,
+    lanes_part_name,
+};
 pub use handle::Table;
 pub use held_rows::lanes_table_delete_held_rows;
 pub use merging::lanes_merge;
@@ -49,3 +55,4 @@ pub use table_changes::{
     lanes_table_import,
 };
 pub use table_reading::{lanes_batches, lanes_file, lanes_inspect};
+pub use turn_handle::FolderTurn;

@@ -1,10 +1,10 @@
 //! What a number and a place say: a refusal's name and its sentence; and the library's version.
 ghost use Rattle.std.specs.Prelude.{◌≡◌, ◌⊎◌, ◌<◌, ◌%◌, [], IfOk, IfSome, IfNone, codes};
 ghost use Rattle.table_model.specs.RefusalText.{number_of};
-ghost use Rattle.lanes_c.specs.Names.{IsNameOf, IsSentenceOf, SaysAgain, batch_of, command_refusal_at, own_name, own_refusal_at, refusal_at, refusal_of_bytes, refusal_of_calls, refusal_of_texts};
+ghost use Rattle.lanes_c.specs.Names.{IsNameOf, IsSentenceOf, SaysAgain, batch_of, command_refusal_at, own_name, own_refusal_at, own_sentence, refusal_at, refusal_of_bytes, refusal_of_calls, refusal_of_texts};
 ghost use Rattle.lanes_c.specs.Rooms.{IsFilled};
 
-use crate::fault::{NOT_OPEN, Place};
+use crate::fault::{BUSY, DAMAGED, NOT_OPEN, Place, SYSTEM};
 use crate::room::fill;
 use refusal_sentences::{CommandRefusal, Knowledge, Sentence};
 use std::alloc::{AllocError, Global};
@@ -12,9 +12,6 @@ use table_model::{BatchName, Number, Origin, Refusal};
 
 /// The library's version, which is the program's.
 const VERSION: &str = "0.7.0";
-
-/// The sentence of a closed handle.
-const CLOSED: &str = "no file is open in this handle";
 
 /// A number's low 32 bits.
 fn low(number: u64) -> u32
@@ -134,6 +131,9 @@ fn own_name(number: u8) -> &'static str
         41 => "QueryDiffers",
         42 => "TooMany",
         43 => "Missing",
+        44 => "Busy",
+        45 => "Damaged",
+        46 => "System",
         _ => "",
     }
 }
@@ -197,12 +197,26 @@ fn known_of<'a>(refusal: CommandRefusal, place: Place) -> Knowledge<'a> {
     }
 }
 
+/// The sentence of a closed handle and of each fault of a folder.
+fn own_sentence(number: u8) -> Option<&'static str>
+    ensures some { IfSome result (λ sentence. (sentence.now ≡ own_sentence number) × ((number ≡ 39) ⊎ ((43 < number) × (number < 47)))) }
+    ensures none { IfNone result ((number ≡ 39 → ⊥) × ((43 < number) × (number < 47) → ⊥)) }
+{
+    match number {
+        NOT_OPEN => Some("no file is open in this handle"),
+        BUSY => Some("others have had the folder for ten seconds"),
+        DAMAGED => Some("its bytes are not those of its name: copy it again, or remove it"),
+        SYSTEM => Some("the system refused a call on the folder"),
+        _ => None,
+    }
+}
+
 /// The sentence of a refusal at a place; none if the number has none.
 fn sentence_of(alloc: Global, number: u8, place: Place) -> Result<String, AllocError>
     ensures { IfOk result (λ text. IsSentenceOf number text.bytes.items) }
 {
-    if number == NOT_OPEN {
-        return String::from_str(alloc, CLOSED);
+    if let Some(sentence) = own_sentence(number) {
+        return String::from_str(alloc, sentence);
     }
     let Some(refusal) = command_refusal(number, place) else {
         return Ok(String::new(alloc));

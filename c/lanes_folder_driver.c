@@ -1,0 +1,241 @@
+/* Makes the calls on a folder that lanes_folder_next asks for. */
+#define _DEFAULT_SOURCE
+#include "lanes_folder_driver.h"
+
+#include <dirent.h>
+#include <errno.h>
+#include <fcntl.h>
+#include <stdio.h>
+#include <stdlib.h>
+#include <string.h>
+#include <sys/file.h>
+#include <sys/stat.h>
+#include <unistd.h>
+
+/* How long a lock is waited for, in hundredths of a second. */
+enum { LONGEST_WAIT = 1000 };
+
+/* How much room there is for two names. */
+enum { ROOM = 640 };
+
+typedef struct {
+    int folder, file, lock; /* -1 if it is not open */
+    const uint8_t *part;
+    size_t part_length;
+    char temporary[64];
+    char names[ROOM + 2]; /* those of the call, each with a byte 0 at its end */
+    const char *second;
+    uint8_t *found; /* what a read found */
+    size_t found_length;
+    lanes_part_names listed;
+    lanes_turn turn;
+} driver;
+
+/* What is told of a call: an answer, and an error's number or how many bytes were written. */
+typedef struct {
+    uint8_t answer;
+    uint64_t number;
+} told;
+
+static told failed(void) { return (told){LANES_FAILED, (uint64_t)errno}; }
+
+static told done_if(int is_done) { return is_done ? (told){LANES_DONE, 0} : failed(); }
+
+static void let_go(int *opened) {
+    if (*opened >= 0) close(*opened);
+    *opened = -1;
+}
+
+/* Makes the temporary, and takes its lock, so that no sweep removes it. */
+static told make(driver *d) {
+    struct stat opened, named;
+    let_go(&d->file);
+    d->file = openat(d->folder, d->names, O_WRONLY | O_CREAT | O_EXCL | O_CLOEXEC, 0666);
+    if (d->file < 0) return failed();
+    if (strlen(d->names) < sizeof d->temporary) memcpy(d->temporary, d->names, strlen(d->names) + 1);
+    int is_swept = flock(d->file, LOCK_EX | LOCK_NB) && errno == EWOULDBLOCK;
+    if (is_swept || fstat(d->file, &opened) || fstatat(d->folder, d->names, &named, AT_SYMLINK_NOFOLLOW) || opened.st_ino != named.st_ino)
+        return (told){LANES_FAILED, EEXIST};
+    return (told){LANES_DONE, 0};
+}
+
+static told write_some(driver *d, uint64_t from) {
+    ssize_t count;
+    do count = write(d->file, d->part + from, d->part_length - (size_t)from);
+    while (count < 0 && errno == EINTR);
+    return count < 0 ? failed() : (told){LANES_WROTE, (uint64_t)count};
+}
+
+static told link_names(driver *d) {
+    if (!linkat(d->folder, d->names, d->folder, d->second, 0)) return (told){LANES_DONE, 0};
+    return errno == EEXIST ? (told){LANES_TAKEN, 0} : failed();
+}
+
+static told remove_name(driver *d) {
+    told came = done_if(!unlinkat(d->folder, d->names, 0) || errno == ENOENT);
+    if (!strcmp(d->names, d->temporary)) d->temporary[0] = 0;
+    return came;
+}
+
+/* Waits for the folder's lock. A file system without locks has none, so that nothing is removed there. */
+static told take_lock(driver *d, int kind) {
+    d->lock = openat(d->folder, ".", O_RDONLY | O_DIRECTORY | O_CLOEXEC);
+    if (d->lock < 0) return failed();
+    for (int waited = 0; flock(d->lock, kind | LOCK_NB); waited++) {
+        if (errno != EWOULDBLOCK) return kind == LOCK_SH ? (told){LANES_DONE, 0} : failed();
+        if (waited == LONGEST_WAIT) return (told){LANES_FAILED, EAGAIN};
+        usleep(10000);
+    }
+    return (told){LANES_DONE, 0};
+}
+
+static int is_part_name(const char *name) { return strlen(name) == LANES_PART_NAME - 1 && strspn(name, "0123456789abcdef") == 32 && !strcmp(name + 32, ".lanes"); }
+
+static int by_name(const void *one, const void *other) { return strcmp(*(const lanes_part_named *)one, *(const lanes_part_named *)other); }
+
+/* Adds the names of one listing. */
+static int add_names(driver *d, DIR *open) {
+    struct dirent *entry;
+    rewinddir(open);
+    for (errno = 0; (entry = readdir(open)); errno = 0) {
+        struct stat found;
+        if (!is_part_name(entry->d_name) || (!fstatat(d->folder, entry->d_name, &found, 0) && S_ISDIR(found.st_mode))) continue;
+        if (!(d->listed.count & (d->listed.count - 1))) {
+            lanes_part_named *more = realloc(d->listed.names, (d->listed.count ? 2 * d->listed.count : 1) * sizeof *more);
+            if (!more) return 0;
+            d->listed.names = more;
+        }
+        memcpy(d->listed.names[d->listed.count++], entry->d_name, LANES_PART_NAME);
+    }
+    return !errno;
+}
+
+/* Tells the names of two listings, in order and each once. */
+static told list(driver *d) {
+    lanes_place place;
+    int again = openat(d->folder, ".", O_RDONLY | O_DIRECTORY | O_CLOEXEC);
+    DIR *open = again < 0 ? NULL : fdopendir(again);
+    if (!open) return failed();
+    d->listed.count = 0;
+    int is_done = add_names(d, open) && add_names(d, open);
+    told fault = failed();
+    closedir(open);
+    if (!is_done) return fault;
+    size_t kept = 0;
+    if (d->listed.count) qsort(d->listed.names, d->listed.count, sizeof *d->listed.names, by_name);
+    for (size_t i = 0; i < d->listed.count; i++)
+        if (!kept || strcmp(d->listed.names[i], d->listed.names[kept - 1])) memmove(d->listed.names[kept++], d->listed.names[i], LANES_PART_NAME);
+    d->listed.count = kept;
+    for (size_t i = 0; i < kept; i++)
+        if (lanes_folder_name((const uint8_t *)d->listed.names[i], LANES_PART_NAME - 1, &d->turn, &place)) return (told){LANES_FAILED, ENOMEM};
+    return (told){LANES_LISTED, 0};
+}
+
+/* Opens a file and reads it whole; it is the open file then. */
+static told read_file(driver *d) {
+    struct stat found;
+    let_go(&d->file);
+    d->file = openat(d->folder, d->names, O_RDONLY | O_CLOEXEC | O_NONBLOCK);
+    if (d->file < 0) return errno == ENOENT && fstatat(d->folder, d->names, &found, AT_SYMLINK_NOFOLLOW) ? (told){LANES_NO_FILE, 0} : failed();
+    if (fstat(d->file, &found)) return failed();
+    free(d->found);
+    d->found_length = 0;
+    d->found = malloc((size_t)found.st_size + 1);
+    if (!d->found) return (told){LANES_FAILED, ENOMEM};
+    for (;;) {
+        ssize_t count = read(d->file, d->found + d->found_length, (size_t)found.st_size + 1 - d->found_length);
+        if (count < 0 && errno == EINTR) continue;
+        if (count < 0) return failed();
+        d->found_length += (size_t)count;
+        if (!count || d->found_length > (size_t)found.st_size) return (told){LANES_FOUND, 0};
+    }
+}
+
+/* Makes the call that is asked for. */
+static told make_call(driver *d, lanes_call call) {
+    switch (call.kind) {
+    case LANES_CALL_MAKE: return make(d);
+    case LANES_CALL_WRITE: return write_some(d, call.number);
+    case LANES_CALL_SYNC: return done_if(!fsync(d->file));
+    case LANES_CALL_LINK: return link_names(d);
+    case LANES_CALL_REMOVE: return remove_name(d);
+    case LANES_CALL_SETTLE: return done_if(!fsync(d->folder));
+    case LANES_CALL_LOCK: return take_lock(d, LOCK_EX);
+    case LANES_CALL_LOCK_SHARED: return take_lock(d, LOCK_SH);
+    case LANES_CALL_LIST: return list(d);
+    case LANES_CALL_READ: return read_file(d);
+    default: let_go(&d->lock); return (told){LANES_DONE, 0};
+    }
+}
+
+/* Puts the names of a call apart. */
+static void part_names(driver *d, lanes_call call, size_t length) {
+    size_t first = call.kind == LANES_CALL_LINK ? (size_t)call.number : length;
+    memmove(d->names + first + 1, d->names + first, length - first);
+    d->names[first] = d->names[length + 1] = 0;
+    d->second = d->names + first + 1;
+}
+
+/* Makes one call after another. */
+static uint8_t drive(driver *d, uint64_t *came, lanes_place *place) {
+    static const uint8_t no_bytes;
+    told last = {LANES_NOTHING, 0};
+    for (;;) {
+        lanes_call call;
+        size_t length;
+        const uint8_t *bytes = last.answer == LANES_FOUND ? d->found : &no_bytes;
+        uint8_t number = lanes_folder_next(&d->turn, last.answer, last.number, bytes, last.answer == LANES_FOUND ? d->found_length : 0, &call,
+                                           (uint8_t *)d->names, ROOM, &length, place);
+        if (number) return number;
+        *came = call.number;
+        if (call.kind == LANES_ENDED) return 0;
+        if (length > ROOM) return LANES_BAD_NAME;
+        part_names(d, call, length);
+        last = make_call(d, call);
+    }
+}
+
+/* The name of a new temporary; 0 if the system has no random numbers. */
+static int draw(char *name, size_t room) {
+    uint64_t number;
+    int file = open("/dev/urandom", O_RDONLY | O_CLOEXEC);
+    int is_drawn = file >= 0 && read(file, &number, sizeof number) == (ssize_t)sizeof number;
+    let_go(&file);
+    return is_drawn && snprintf(name, room, ".part-%016llx", (unsigned long long)number) > 0;
+}
+
+static uint8_t begin(driver *d, uint8_t command, const lanes_part_names *about, lanes_place *place) {
+    char temporary[64];
+    if (!draw(temporary, sizeof temporary)) {
+        *place = (lanes_place){(uint64_t)errno, 0};
+        return LANES_SYSTEM;
+    }
+    uint8_t number = lanes_folder_begin(command, (const uint8_t *)temporary, strlen(temporary), d->part, d->part_length, &d->turn, place);
+    for (size_t i = 0; !number && about && i < about->count; i++)
+        number = lanes_folder_name((const uint8_t *)about->names[i], LANES_PART_NAME - 1, &d->turn, place);
+    return number;
+}
+
+uint8_t lanes_folder_follow(const char *path, uint8_t command, const uint8_t *part, size_t part_length, const lanes_part_names *about,
+                            lanes_part_names *listed, uint64_t *came, lanes_place *place) {
+    driver d = {.folder = open(path, O_RDONLY | O_DIRECTORY | O_CLOEXEC), .file = -1, .lock = -1, .part = part, .part_length = part_length};
+    *came = 0;
+    if (d.folder < 0) {
+        *place = (lanes_place){(uint64_t)errno, 0};
+        return LANES_SYSTEM;
+    }
+    uint8_t number = begin(&d, command, about, place);
+    if (!number) number = drive(&d, came, place);
+    lanes_folder_end(&d.turn);
+    if (d.temporary[0]) unlinkat(d.folder, d.temporary, 0);
+    if (listed && !number) {
+        *listed = d.listed;
+        d.listed.names = NULL;
+    }
+    free(d.listed.names);
+    free(d.found);
+    let_go(&d.file);
+    let_go(&d.lock);
+    let_go(&d.folder);
+    return number;
+}

@@ -1,0 +1,26 @@
+/* Follows the commands of lanes_folder_begin in a folder of parts: it makes the calls that lanes_folder_next asks for, by POSIX. */
+#ifndef LANES_FOLDER_DRIVER_H
+#define LANES_FOLDER_DRIVER_H
+
+#include "lanes.h"
+
+/* How many bytes the name of a part has, and one more. */
+enum { LANES_PART_NAME = 39 };
+
+/* The name of a part, with a byte 0 at its end. */
+typedef char lanes_part_named[LANES_PART_NAME];
+
+/* Names of parts. free() frees them. */
+typedef struct lanes_part_names {
+    lanes_part_named *names;
+    size_t count;
+} lanes_part_names;
+
+/* Follows a command of lanes.h in the folder of a path. `about` are the parts that are replaced, removed or kept; it may be null, for none.
+ * `listed` is given the names that a listing gave, and may be null; free() frees them.
+ *
+ * Answers 0, and in *came what the command has come to, as LANES_ON_DISK; or the number of a refusal, with its place. */
+uint8_t lanes_folder_follow(const char *path, uint8_t command, const uint8_t *part, size_t part_length, const lanes_part_names *about,
+                            lanes_part_names *listed, uint64_t *came, lanes_place *place);
+
+#endif

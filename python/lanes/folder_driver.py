@@ -1,0 +1,263 @@
+"""Driving a folder of parts: the library says which call on the folder comes next, this module makes it and tells what came of it."""
+
+from __future__ import annotations
+
+import contextlib
+import errno
+import fcntl
+import os
+import re
+import secrets
+from typing import Callable, Iterable, Optional, Tuple
+
+from . import calls
+from .errors import Busy, Damaged, Refused
+from .waiting import Wait
+
+#: The commands of `lanes_folder_begin`.
+PUT, KEEP, REPLACE, REMOVE, LIST, KEEP_ALL = range(1, 7)
+
+#: What a command comes to.
+ON_DISK, UNSYNCED, GONE = 1, 2, 3
+
+#: What is told of a call.
+_NOTHING, _DONE, _FAILED, _TAKEN, _WROTE, _LISTED, _MISSING, _FOUND = range(8)
+
+#: The numbers of `Busy`, `Damaged` and `System`.
+_BUSY, _DAMAGED, _SYSTEM = 44, 45, 46
+
+_PART = re.compile(r"[0-9a-f]{32}\.lanes")
+
+#: What is told: a number of these, an error's number or how many bytes were written, and what a file has.
+_Told = Tuple[int, int, bytes]
+
+_IS_DONE: _Told = (_DONE, 0, b"")
+
+
+class Driver:
+    """A folder that is open, with the file that is open in it and its lock."""
+
+    def __init__(self, folder: str, before_link: Optional[Callable[[], None]] = None) -> None:
+        self.folder = folder
+        self._before_link = before_link
+        self._opened = os.open(folder, os.O_RDONLY | os.O_DIRECTORY | os.O_CLOEXEC)
+        self._file = self._lock = -1
+        self._part, self._temporary = b"", ""
+        self._path = folder
+        self._faults: dict[int, OSError] = {}
+        #: Why a file or the folder could not be synced, and its path.
+        self.unsynced: Optional[tuple[OSError, str]] = None
+        #: What the last listing gave.
+        self.names: list[str] = []
+        self._calls = [
+            *(self._end, self._make, self._write, self._sync, self._link, self._remove, self._settle),
+            *(self._lock_alone, self._lock_shared, self._list, self._read, self._unlock),
+        ]
+
+    def follow(self, command: int, part: bytes = b"", names: Iterable[str] = ()) -> int:
+        """What a command comes to.
+
+        Raises:
+            Busy: others have had the folder for ten seconds.
+            Damaged: a part has other bytes than its name says.
+            OSError: a call failed.
+        """
+        self._part = part
+        turn = calls.Turn(command, f".part-{secrets.token_hex(8)}", part)
+        for name in names:
+            turn.name(name)
+        told: _Told = (_NOTHING, 0, b"")
+        while True:
+            try:
+                kind, number, text = turn.next(*told)
+            except Refused as refusal:
+                raise self._why(refusal) from None
+            if kind == 0:
+                return number
+            told = self._told(turn, kind, number, os.fsdecode(text))
+
+    def _told(self, turn: calls.Turn, kind: int, number: int, text: str) -> _Told:
+        """What is told of a call, which is made."""
+        try:
+            told = self._calls[kind](number, text)
+        except Busy as busy:
+            self._faults[errno.EAGAIN] = busy
+            return _FAILED, errno.EAGAIN, b""
+        except OSError as fault:
+            code = fault.errno or errno.EIO
+            self._faults[code] = fault
+            return _FAILED, code, b""
+        if told[0] == _LISTED:
+            for name in self.names:
+                turn.name(name)
+        return told
+
+    def _why(self, refusal: Refused) -> Exception:
+        """Why a command was refused."""
+        if refusal.number == _DAMAGED:
+            return Damaged(self._path)
+        if refusal.number in (_BUSY, _SYSTEM):
+            return self._faults.get(errno.EAGAIN if refusal.number == _BUSY else refusal.place[0], refusal)
+        return refusal
+
+    def _end(self, number: int, text: str) -> _Told:
+        raise AssertionError("no call is asked for")
+
+    def _make(self, number: int, name: str) -> _Told:
+        """Makes the temporary, and takes its lock, so that no sweep removes it."""
+        path = os.path.join(self.folder, name)
+        self._let_go()
+        self._file = os.open(path, os.O_WRONLY | os.O_CREAT | os.O_EXCL | os.O_CLOEXEC, 0o666)
+        self._path, self._temporary = path, name
+        try:
+            fcntl.flock(self._file, fcntl.LOCK_EX | fcntl.LOCK_NB)
+        except BlockingIOError:
+            raise FileExistsError(errno.EEXIST, "a sweep came before its lock", path) from None
+        except OSError:
+            pass  # without locks, and no sweep removes it
+        if not is_named(self._file, path):
+            raise FileExistsError(errno.EEXIST, "a sweep came before its lock", path)
+        return _IS_DONE
+
+    def _write(self, number: int, name: str) -> _Told:
+        return _WROTE, os.write(self._file, memoryview(self._part)[number:]), b""
+
+    def _sync(self, number: int, name: str) -> _Told:
+        return self._synced(self._file)
+
+    def _link(self, number: int, names: str) -> _Told:
+        """Gives the temporary the name of its part."""
+        first, path = (os.path.join(self.folder, name) for name in (names[:number], names[number:]))
+        if self._before_link is not None:
+            self._before_link()
+        self._path = path
+        try:
+            os.link(first, path)
+        except FileExistsError:
+            return _TAKEN, 0, b""
+        except OSError:  # the file system has no hard links
+            if os.path.lexists(path):
+                return _TAKEN, 0, b""
+            os.rename(first, path)
+        return _IS_DONE
+
+    def _remove(self, number: int, name: str) -> _Told:
+        with contextlib.suppress(FileNotFoundError):
+            os.unlink(os.path.join(self.folder, name))
+        if name == self._temporary:
+            self._temporary = ""
+        return _IS_DONE
+
+    def _settle(self, number: int, name: str) -> _Told:
+        return self._synced(self._opened)
+
+    def _synced(self, opened: int) -> _Told:
+        """Syncs a file or the folder."""
+        try:
+            os.fsync(opened)
+        except OSError as fault:
+            self.unsynced = fault, self._path
+            raise
+        return _IS_DONE
+
+    def _lock_alone(self, number: int, name: str) -> _Told:
+        if not self._locked(fcntl.LOCK_EX):
+            raise OSError(errno.ENOLCK, "the folder can't be locked, so no part is removed", self.folder)
+        return _IS_DONE
+
+    def _lock_shared(self, number: int, name: str) -> _Told:
+        self._locked(fcntl.LOCK_SH)
+        return _IS_DONE
+
+    def _locked(self, kind: int) -> bool:
+        """Takes the lock of the folder; False if the file system has none."""
+        self._lock = os.open(self.folder, os.O_RDONLY | os.O_DIRECTORY | os.O_CLOEXEC)
+        return wait_for_lock(self.folder, self._lock, kind)
+
+    def _list(self, number: int, name: str) -> _Told:
+        self.names = names_in(self.folder)
+        return _LISTED, 0, b""
+
+    def _read(self, number: int, name: str) -> _Told:
+        self._path = os.path.join(self.folder, name)
+        self._let_go()
+        try:
+            self._file = os.open(self._path, os.O_RDONLY | os.O_CLOEXEC)
+        except FileNotFoundError:
+            if leads_nowhere(self._path):
+                raise
+            return _MISSING, 0, b""
+        with open(self._file, "rb", buffering=0, closefd=False) as file:
+            return _FOUND, 0, file.readall()
+
+    def _unlock(self, number: int, name: str) -> _Told:
+        os.close(self._lock)
+        self._lock = -1
+        return _IS_DONE
+
+    def _let_go(self) -> None:
+        """Closes the open file."""
+        if self._file >= 0:
+            os.close(self._file)
+            self._file = -1
+
+    def __enter__(self) -> Driver:
+        return self
+
+    def __exit__(self, *fault: object) -> None:
+        """Lets the folder go. A turn that was broken off leaves no temporary."""
+        if self._temporary:
+            with contextlib.suppress(OSError):
+                os.unlink(os.path.join(self.folder, self._temporary))
+        self._let_go()
+        for opened in self._lock, self._opened:
+            if opened >= 0:
+                os.close(opened)
+        self._lock = self._opened = -1
+
+
+def wait_for_lock(folder: str, opened: int, kind: int) -> bool:
+    """Waits for the lock of a folder that is open; whether there is one.
+
+    Raises:
+        Busy: others have had it for ten seconds.
+    """
+    wait = Wait("others have had the folder for ten seconds", folder)
+    while True:
+        try:
+            fcntl.flock(opened, kind | fcntl.LOCK_NB)
+            return True
+        except BlockingIOError:
+            wait.again()
+        except OSError:
+            return False
+
+
+def names_in(folder: str) -> list[str]:
+    """The names of a folder's parts, in ascending order: those of two listings, by who has a lock already. A folder that has a part's name is no
+    part."""
+    return sorted({*_names_once(folder), *_names_once(folder)})
+
+
+def _names_once(folder: str) -> list[str]:
+    """The names of parts in one listing."""
+    with os.scandir(folder) as entries:
+        return [entry.name for entry in entries if is_part_name(entry.name) and not entry.is_dir()]
+
+
+def is_part_name(name: str) -> bool:
+    """Whether a name is that of a part."""
+    return _PART.fullmatch(name) is not None
+
+
+def leads_nowhere(path: str) -> bool:
+    """Whether there is a link of this path, and no file behind it."""
+    return os.path.islink(path) and not os.path.exists(path)
+
+
+def is_named(file: int, path: str) -> bool:
+    """Whether an open file is the one of a path."""
+    try:
+        return os.path.samestat(os.fstat(file), os.lstat(path))
+    except OSError:
+        return False
