@@ -3,24 +3,29 @@
 //! `CHANGED`; with none refused it passes. The command `tests/refused-memory` refuses each in turn and counts those texts.
 use crate::tests::three;
 use csv_rows::{CsvError, CsvReader, CsvWriter};
+use std::alloc::Global;
 use std::test::Fail;
-use table_model::{Counted, Refusal};
+use table_model::{Counted, Refusal, Schema};
 use test_support::{agree, growth_refused};
 
 const TEXT: &[u8] = b"C,B,A\n1,2,3\n4,5,6\n";
 
-#[test]
-fn a_refused_read_gives_no_rows(rt: HostRuntime) -> Result<(), Fail> {
-    let alloc = rt.alloc();
-    let schema = three(alloc)?;
+/// Reads the text by the schema.
+fn read(alloc: Global, schema: &Schema) -> Result<(), Fail> {
     let mut reader = Counted::new(TEXT);
-    let mut csv = CsvReader::new(alloc, &schema, true)?;
+    let mut csv = CsvReader::new(alloc, schema, true)?;
     match csv.next_batch(alloc, &mut reader) {
         Ok(rows) => agree(rows.len(), 2),
         Err(fault) => growth_refused(
             fault == CsvError::Refused(Refusal::Memory) && reader.failures() == 0,
         ),
     }
+}
+
+#[test]
+fn a_refused_read_gives_no_rows(rt: HostRuntime) -> Result<(), Fail> {
+    let schema = three(rt.alloc())?;
+    read(rt.alloc(), &schema)
 }
 
 #[test]
