@@ -13,13 +13,13 @@ LOOKED_AT = ["part_folder", "lanes", "folder_home", "folder_history", "folder_pr
 CALL = re.compile(r"\bfs::[a-z_]+\(|\bOpenOptions::new\(|\.sync_all\(|\.sync_data\(|\.set_len\(|\.try_lock\(|\.try_lock_shared\(")
 CHANGES = re.compile(r"\bfs::(create|write|rename|remove|hard_link|copy|set_)[a-z_]*\(|\bOpenOptions::new\(|\.sync_all\(|\.sync_data\(|\.set_len\(")
 
-# The calls of the protocol, as SystemFolder makes and notes them, and as a named load makes them by itself (`Temporary`, `FolderLock`).
+# The calls of the protocol, as SystemFolder makes and notes them.
 IMPLEMENTATION = {
     "part_folder/src/system.rt": 5,
     "part_folder/src/listing.rt": 1,
     "part_folder/src/lock.rt": 3,
-    "part_folder/src/keeping.rt": 5,
-    "part_folder/src/temporary.rt": 12,
+    "part_folder/src/keeping.rt": 2,
+    "part_folder/src/temporary.rt": 5,
     "part_folder/src/names.rt": 1,
 }
 # Calls that change something beside it.

@@ -5,9 +5,14 @@ says of the order of covering can't be seen in a trace; that a removed part was 
 
 import os
 import re
+import shutil
+import signal
+import subprocess
+import time
 
-from parts import PART, all_are_named, make_folder, parts_of
-from putting import only_parts, traced
+from parts import PART, all_are_named, count, make_folder, parts_of
+from putting import CALLS, in_order, only_parts, traced
+from room import Lacking
 
 LINE = re.compile(r"^\d+ +(\w+)\((.*)\) += (-?\d+)(?:<([^>]*)>)?(.*)$", re.M)
 QUOTED = re.compile(r'"([^"]*)"')
@@ -182,6 +187,33 @@ def each_call_of_each_command_is_in_turn(room):
         only_parts(room)
 
 
+def a_part_that_came_meanwhile_is_judged_and_then_the_part_is_put(room):
+    make_folder(room)
+    offered(room)
+    if shutil.which("strace") is None:
+        raise Lacking("strace is not installed")
+    # It is stopped when it has synced its temporary.
+    words = ["strace", "-f", "-y", "-o", "trace", "-e", f"trace={CALLS}", "-e", "inject=fsync:signal=STOP:when=1", room.program, "apply", "d", "one"]
+    waiting = subprocess.Popen(words, cwd=room.folder, stdin=subprocess.DEVNULL, stdout=subprocess.PIPE, stderr=subprocess.PIPE)
+    deadline = time.monotonic() + 20
+    while "stopped by SIGSTOP" not in (room.get("trace").decode() if os.path.exists(room.path("trace")) else ""):
+        assert time.monotonic() < deadline and waiting.poll() is None, f"it was not stopped: {waiting.stderr.read()!r}"
+        time.sleep(0.02)
+    room.ok("import", "--no-header", "d", "-", given=b"5,5\n")
+    os.kill(int(room.get("trace").split()[0]), signal.SIGCONT)
+    out, err = waiting.communicate(timeout=60)
+    assert (waiting.returncode, out, err) == (0, b"ok batches=2 ranges=0 new=1\n", b""), f"it said {out!r} {err!r}"
+    trace = room.get("trace").decode()
+    try:
+        follow(room, trace)
+    except OutOfTurn as fault:
+        raise AssertionError(f"{fault} in\n{trace[-2000:]}") from fault
+    locked, free, part = r"flock\(.*/d>, LOCK_EX\|LOCK_NB\) += 0", r"flock\(.*/d>, LOCK_UN\)", r"openat\(.*\"d/[0-9a-f]{32}\.lanes\", O_RDONLY"
+    in_order(trace, (r"SIGSTOP", locked, r"getdents64\(", r"unlink.*\.part-", free, part, r"O_CREAT", locked, r"link.*\.lanes\".* = 0", free))
+    assert count(room) == 4
+    only_parts(room)
+
+
 # Histories that the protocol does not have: the rules are seen to refuse.
 PART_NAME = "0" * 32 + ".lanes"
 OTHER_NAME = "1" * 32 + ".lanes"
@@ -213,4 +245,4 @@ def the_rules_refuse_what_the_protocol_does_not_have(_room):
                 assert at + 1 == len(calls), f"{said}: refused too early, at {call}"
 
 
-TESTS = [each_call_of_each_command_is_in_turn, the_rules_refuse_what_the_protocol_does_not_have]
+TESTS = [each_call_of_each_command_is_in_turn, a_part_that_came_meanwhile_is_judged_and_then_the_part_is_put, the_rules_refuse_what_the_protocol_does_not_have]

@@ -13,7 +13,8 @@ use crate::progress::{PartCount, Progress, ToldOpening};
 use folder_home::{
     HEAD_BYTES, Head, Part, PartRefusal, is_part, is_part_name, join_parts, open_parts, part_head,
 };
-use part_folder::{Listing, is_link, list, list_locked, path_in};
+use folder_protocol::list_names;
+use part_folder::{FolderFault, SystemFolder, is_link, path_in};
 use refusal_sentences::CommandRefusal;
 use replica_reading::OpenFile;
 use replica_store::Store;
@@ -78,17 +79,17 @@ pub struct PartHeads {
 }
 
 impl Parts {
-    /// The parts among the names in a folder. A folder is not a part, even if named like one; that is looked at only if it is asked for.
+    /// The parts among the names in a folder, with so many more that are not UTF-8. A folder is not a part, even if named like one; that is looked at only if it is asked for.
     fn among<R: Files + AllocGlobal>(
         rt: &R,
         folder: &str,
-        listing: Listing,
+        listing: (Vec<String>, usize),
         is_careful: bool,
     ) -> Result<Parts, AllocError> {
         let mut names = Vec::new(rt.alloc());
         let mut paths = Vec::new(rt.alloc());
-        let mut others = listing.unreadable();
-        for name in listing.into_names() {
+        let (listed, mut others) = listing;
+        for name in listed {
             let path = path_in(rt.alloc(), folder, name.as_str())?;
             if is_part_name(name.as_str()) && !(is_careful && is_folder(rt, path.as_str())) {
                 names.push(name)?;
@@ -106,37 +107,13 @@ impl Parts {
 
     /// The parts of a folder, listed under its shared lock. There is at least one.
     pub fn listed<R: Host>(rt: &R, folder: &str, is_careful: bool) -> Result<Parts, Failure> {
-        let listing = match list(rt, folder) {
-            Ok(listing) => listing,
-            Err(fault) => return Err(of_folder(rt.alloc(), folder, fault)),
-        };
-        let parts = Parts::among(rt, folder, listing, is_careful)?;
+        let parts = Parts::among(rt, folder, names_in(rt, folder)?, is_careful)?;
         if parts.names.as_slice().is_empty() {
             let refusal = CommandRefusal::from(Refusal::ReadFault);
             let words = "this folder holds no part";
             return Err(Failure::advised(rt.alloc(), refusal, folder, words));
         }
         Ok(parts)
-    }
-
-    /// The paths of the parts that a folder has and these are not, by who has its exclusive lock.
-    pub fn paths_since<R: Files<File = File> + AllocGlobal + Clone + Drop>(
-        &self,
-        rt: &R,
-        folder: &str,
-    ) -> Result<Vec<String>, Failure> {
-        let listing = match list_locked(rt, folder) {
-            Ok(listing) => listing,
-            Err(fault) => return Err(of_folder(rt.alloc(), folder, fault)),
-        };
-        let mut paths = Vec::new(rt.alloc());
-        let found = Parts::among(rt, folder, listing, true)?;
-        for path in found.paths {
-            if self.paths.as_slice().binary_search(&path).is_err() {
-                paths.push(path)?;
-            }
-        }
-        Ok(paths)
     }
 
     /// The names, in ascending order.
@@ -162,6 +139,21 @@ impl Parts {
     /// How many other names the folder has.
     pub fn others(&self) -> usize {
         self.others
+    }
+}
+
+/// The names in a folder, listed under its shared lock, and how many more there are that are not UTF-8.
+fn names_in<R: Host>(rt: &R, folder: &str) -> Result<(Vec<String>, usize), Failure> {
+    let mut system = match SystemFolder::open(rt, folder) {
+        Ok(system) => system,
+        Err(error) => return Err(of_folder(rt.alloc(), folder, FolderFault::from(error))),
+    };
+    match list_names(rt.alloc(), &mut system) {
+        Ok(names) => Ok((names, system.unreadable())),
+        Err(error) => {
+            let fault = system.fault().unwrap_or(FolderFault::from(error));
+            Err(of_folder(rt.alloc(), folder, fault))
+        }
     }
 }
 

@@ -1,24 +1,21 @@
 //! Parts with batches of given names, as of a named load or of offers, each of which is put once it goes with all that is there.
 
 use crate::failure::Failure;
-use crate::folders::{Parts, part_of, parts_of};
-use crate::heads::Heads;
+use crate::folders::Parts;
 use crate::host::Host;
-use crate::looks::Looks;
-use crate::part_failures::{Unread, busy, of_folder, of_other_table, path_at, why_unread};
-use crate::parts::Untold;
-use crate::putting::{place, unwritten, written};
+use crate::judge::Judge;
+use crate::part_failures::busy;
+use crate::putting::{kept, new_temporary, opened, put_part, unkept};
 use file_replacing::Replaced;
-use folder_home::{PartFault, PartRefusal, join_parts, part_name};
-use part_folder::{FolderFault, FolderLock, Temporary};
-use refusal_sentences::CommandRefusal;
-use std::fs::Files;
+use folder_home::part_name;
+use folder_protocol::{self, Untaken, take_all};
+use part_folder::{FolderFault, Patience, SystemFolder};
 use std::io::ErrorKind;
-use table_model::Refusal;
 
 /// Puts a part into a folder of which these parts were looked at, and with which it goes. It is written first; then, under the folder's
-/// exclusive lock, the parts that came since are looked at, and it is given its name. If the file system has no such lock it goes
-/// without, and readers find two lists of rows of one name.
+/// exclusive lock, the folder is listed, and if no part came since it is given its name. Else it is looked at the parts that came, and
+/// it is put anew, until ten seconds are over. If the file system has no such lock it goes without, and readers find two lists of rows
+/// of one name.
 ///
 /// Refused as `Conflict` is a part that has other rows under a name that came since.
 pub fn put_judged<R: Host>(
@@ -28,93 +25,64 @@ pub fn put_judged<R: Host>(
     bytes: &[u8],
 ) -> Result<Replaced, Failure> {
     let name = part_name(rt.alloc(), bytes)?;
-    let temporary = written(rt, folder, bytes)?;
-    let lock = match FolderLock::exclusive(rt, folder) {
-        Ok(lock) => Some(lock),
-        Err(FolderFault::NoLock) => None,
-        Err(fault) => {
-            temporary.discard();
-            return Err(of_folder(rt.alloc(), folder, fault));
-        }
-    };
-    let replaced = match judge(rt, folder, parts, name.as_str(), &temporary) {
-        Ok(()) => placed(rt, folder, temporary, name.as_str(), bytes),
-        Err(failure) => {
-            temporary.discard();
-            Err(failure)
-        }
-    };
-    if let Some(lock) = lock {
-        lock.release();
-    }
-    replaced
-}
-
-/// Gives the temporary its name.
-fn placed<R: Host>(
-    rt: &R,
-    folder: &str,
-    temporary: Temporary<'_, R>,
-    name: &str,
-    bytes: &[u8],
-) -> Result<Replaced, Failure> {
-    match place(rt, folder, temporary, name, bytes)? {
-        Some(replaced) => Ok(replaced),
-        None => Err(unwritten(rt, folder, ErrorKind::ResourceBusy)),
-    }
-}
-
-/// Whether a new part goes with those that a folder has and the looked-at ones are not.
-fn judge<R: Host>(
-    rt: &R,
-    folder: &str,
-    parts: &Parts,
-    name: &str,
-    temporary: &Temporary<'_, R>,
-) -> Result<(), Failure> {
-    let mut looks = Looks::new(rt);
+    let mut system = opened(rt, folder)?;
+    let mut judge = Judge::new(rt, folder, bytes, parts.names())?;
+    let mut patience = Patience::new(rt);
     for _ in 0..u64::MAX {
-        let since = parts.paths_since(rt, folder)?;
-        match go_together(rt, folder, name, temporary.path(), since.as_slice()) {
-            Ok(()) => return Ok(()),
-            Err(why) => {
-                if !looks.again(rt, why)? {
-                    break;
-                }
-            }
+        if let Some(replaced) = put_once(rt, folder, &mut system, name.as_str(), bytes, &judge)? {
+            return Ok(replaced);
+        }
+        look(rt, folder, &mut system, &mut judge)?;
+        if system.fault() == Some(FolderFault::NoLock) {
+            return put_part(rt, folder, bytes);
+        }
+        if !patience.wait(rt) {
+            break;
         }
     }
     Err(busy(rt.alloc(), folder))
 }
 
-/// Whether a new part of a folder, which has another path until it is placed, goes with the parts of these paths.
-fn go_together<R: Files + AllocGlobal>(
+/// Puts the part, if no other one came. None if one did, or the folder has no lock: it is to be looked at.
+fn put_once<R: Host>(
     rt: &R,
     folder: &str,
+    system: &mut SystemFolder<'_, R>,
     name: &str,
-    path: &str,
-    others: &[String],
-) -> Result<(), Unread> {
-    if others.is_empty() {
-        return Ok(());
+    bytes: &[u8],
+    judge: &Judge<'_, R>,
+) -> Result<Option<Replaced>, Failure> {
+    let temporary = new_temporary(rt, folder)?;
+    match folder_protocol::put_judged(rt.alloc(), system, temporary.as_str(), name, bytes, judge) {
+        Ok(Some(outcome)) => kept(rt, folder, name, outcome),
+        Ok(None) => Ok(None),
+        // A sweep came between: it is tried anew.
+        Err(error) if error.kind() == ErrorKind::AlreadyExists => Ok(None),
+        Err(_) if system.fault() == Some(FolderFault::NoLock) => Ok(None),
+        Err(error) => Err(unkept(rt, folder, system, error.kind())),
     }
-    let heads = Heads::new(rt.alloc());
-    let mut first = part_of(rt, name, path, Untold, &heads)?;
-    let mut readers = parts_of(rt, others, Untold, &heads)?;
-    let refusal = match join_parts(rt.alloc(), &mut first, readers.as_mut_slice()) {
-        Ok(_store) => return Ok(()),
-        Err(refusal) => refusal,
-    };
-    let part = refusal.part.saturating_sub(1);
-    match refusal.fault {
-        PartFault::Refused(Refusal::Conflict(name)) => {
-            let refusal = CommandRefusal::from(Refusal::Conflict(name));
-            Err(Unread::Refused(Failure::of_held(rt.alloc(), refusal, folder)))
+}
+
+/// Looks at the parts that came.
+fn look<R: Host>(
+    rt: &R,
+    folder: &str,
+    system: &mut SystemFolder<'_, R>,
+    judge: &mut Judge<'_, R>,
+) -> Result<(), Failure> {
+    match take_all(rt.alloc(), system, judge) {
+        Ok(names) => {
+            judge.saw(names);
+            Ok(())
         }
-        PartFault::Refused(Refusal::SchemaDiffers) => {
-            let path = path_at(others, part);
-            Err(Unread::Refused(of_other_table(rt, &heads, path, folder)))
+        Err(Untaken::Gone) => Ok(()),
+        Err(Untaken::Failed(error)) if error.kind() == ErrorKind::IsADirectory => {
+            match system.unread() {
+                Some(name) => judge.saw_folder(name),
+                None => Ok(()),
+            }
         }
-        fault => Err(why_unread(rt, others, readers, PartRefusal { part, fault }, &heads)),
+        Err(Untaken::Failed(error)) => Err(unkept(rt, folder, system, error.kind())),
+        Err(Untaken::Refused(failure)) => Err(failure),
     }
 }

@@ -19,6 +19,7 @@ mod home;
 mod host;
 mod inputs;
 mod inspecting;
+mod judge;
 mod judged_puts;
 mod loading;
 mod looks;

@@ -7,8 +7,8 @@ use crate::part_failures::of_folder;
 use file_home::Left;
 use file_replacing::Replaced;
 use folder_home::part_name;
-use folder_protocol::{self, Outcome, keep, put};
-use part_folder::{MakeFault, Placed, SystemFolder, Temporary, make, path_in, temporary_name};
+use folder_protocol::{self, Outcome, put};
+use part_folder::{MakeFault, SystemFolder, make, path_in, temporary_name};
 use refusal_sentences::CommandRefusal;
 use std::fs::{File, Files};
 use std::io::ErrorKind;
@@ -37,7 +37,7 @@ pub fn put_part<R: Host>(rt: &R, folder: &str, bytes: &[u8]) -> Result<Replaced,
                 }
             }
             Err(error) if error.kind() == ErrorKind::AlreadyExists => {}
-            Err(error) => return Err(unkept(rt, folder, name.as_str(), &system, error.kind())),
+            Err(error) => return Err(unkept(rt, folder, &system, error.kind())),
         }
     }
     Err(unwritten(rt, folder, ErrorKind::ResourceBusy))
@@ -83,67 +83,23 @@ pub fn kept<R: Files + AllocGlobal>(
     }
 }
 
-/// The refusal of a command that could not put or keep the part of this name, since the system refuses a call for this reason: its lock,
-/// a read of the part, or a write.
+/// The refusal of a command that could not put or keep a part, since the system refuses a call for this reason: its lock, its listing,
+/// a read of a part, or a write.
 pub fn unkept<R: Files<File = File> + AllocGlobal>(
     rt: &R,
     folder: &str,
-    name: &str,
     system: &SystemFolder<'_, R>,
     kind: ErrorKind,
 ) -> Failure {
-    if let Some(fault) = system.lock_fault() {
+    if let Some(fault) = system.fault() {
         return of_folder(rt.alloc(), folder, fault);
     }
-    if !system.is_unread() {
+    let Some(name) = system.unread() else {
         return unwritten(rt, folder, kind);
-    }
+    };
     match path_in(rt.alloc(), folder, name) {
         Ok(path) => Failure::of_reason(rt.alloc(), Refusal::ReadFault, path.as_str(), kind),
         Err(lacking) => Failure::from(lacking),
-    }
-}
-
-/// Writes these bytes to a temporary of a folder.
-pub fn written<'r, R: Files<File = File> + RandomSource + AllocGlobal>(
-    rt: &'r R,
-    folder: &str,
-    bytes: &[u8],
-) -> Result<Temporary<'r, R>, Failure> {
-    match Temporary::write(rt, folder, bytes) {
-        Ok(temporary) => Ok(temporary),
-        Err(error) => Err(unwritten(rt, folder, error.kind())),
-    }
-}
-
-/// Gives a temporary, which has these bytes, the name of the part that it is. None if a part that had the name before is gone since.
-pub fn place<R: Host>(
-    rt: &R,
-    folder: &str,
-    temporary: Temporary<'_, R>,
-    name: &str,
-    bytes: &[u8],
-) -> Result<Option<Replaced>, Failure> {
-    let path = path_in(rt.alloc(), folder, name)?;
-    match temporary.place(path.as_str()) {
-        Ok(Placed::Synced) => Ok(Some(Replaced::Synced)),
-        Ok(Placed::Unsynced) => Ok(Some(Replaced::Unsynced)),
-        Ok(Placed::Taken) => keep_part(rt, folder, name, bytes),
-        Err(error) => Err(unwritten(rt, folder, error.kind())),
-    }
-}
-
-/// Has a part on the disk that is there already with these bytes. None if it is gone.
-pub fn keep_part<R: Host>(
-    rt: &R,
-    folder: &str,
-    name: &str,
-    bytes: &[u8],
-) -> Result<Option<Replaced>, Failure> {
-    let mut system = opened(rt, folder)?;
-    match keep(rt.alloc(), &mut system, name, bytes) {
-        Ok(outcome) => kept(rt, folder, name, outcome),
-        Err(error) => Err(unkept(rt, folder, name, &system, error.kind())),
     }
 }
 

@@ -54,7 +54,7 @@ pub fn replace<R: Host>(
         Ok(None) => Ok(Round::Overtaken),
         // A sweep came between: it is tried anew.
         Err(error) if error.kind() == ErrorKind::AlreadyExists => Ok(Round::Overtaken),
-        Err(error) => Err(unkept(rt, folder, part.as_str(), &system, error.kind())),
+        Err(error) => Err(unkept(rt, folder, &system, error.kind())),
     }
 }
 

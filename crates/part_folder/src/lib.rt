@@ -13,12 +13,8 @@ mod system;
 mod temporary;
 
 pub use fault::FolderFault;
-pub use keeping::sync_all;
-pub use listing::{Listing, list, list_locked};
-pub use lock::FolderLock;
 pub use making::{MakeFault, make};
 pub use names::{is_link, path_in, temporary_name};
 pub use patience::Patience;
 pub use sweeping::sweep;
 pub use system::SystemFolder;
-pub use temporary::{Placed, Temporary};

@@ -23,8 +23,9 @@ pub struct SystemFolder<'r, R: Files<File = File>> {
     folder: File,
     file: Option<File>,
     lock: Option<FolderLock>,
-    lock_fault: Option<FolderFault>,
-    is_unread: bool,
+    fault: Option<FolderFault>,
+    unread: Option<String>,
+    unreadable: usize,
     calls: Record,
 }
 
@@ -40,22 +41,31 @@ impl<'r, R: Files<File = File> + AllocGlobal> SystemFolder<'r, R> {
             folder,
             file: None,
             lock: None,
-            lock_fault: None,
-            is_unread: false,
+            fault: None,
+            unread: None,
+            unreadable: 0,
             calls: Record::new(),
         })
     }
 }
 
 impl<'r, R: Files<File = File>> SystemFolder<'r, R> {
-    /// Why its lock was not got, if that was tried and failed.
-    pub fn lock_fault(&self) -> Option<FolderFault> {
-        self.lock_fault
+    /// Why its lock was not got or its names were not listed, if that was tried and failed.
+    pub fn fault(&self) -> Option<FolderFault> {
+        self.fault
     }
 
-    /// Whether a file of it could not be read.
-    pub fn is_unread(&self) -> bool {
-        self.is_unread
+    /// The name of the file that could not be read, if that was tried and failed.
+    pub fn unread(&self) -> Option<&str> {
+        match &self.unread {
+            Some(name) => Some(name.as_str()),
+            None => None,
+        }
+    }
+
+    /// How many names the last listing left out, since they are not UTF-8.
+    pub fn unreadable(&self) -> usize {
+        self.unreadable
     }
 }
 
@@ -207,7 +217,7 @@ impl<'r, R: Files<File = File> + Clock + AllocGlobal + Clone + Drop> Folder
                 Ok(())
             }
             Err(fault) => {
-                self.lock_fault = Some(fault);
+                self.fault = Some(fault);
                 self.calls.locked(false);
                 Err(error_of(fault))
             }
@@ -222,7 +232,7 @@ impl<'r, R: Files<File = File> + Clock + AllocGlobal + Clone + Drop> Folder
                 Ok(())
             }
             Err(fault) => {
-                self.lock_fault = Some(fault);
+                self.fault = Some(fault);
                 self.calls.locked_shared(false);
                 Err(error_of(fault))
             }
@@ -232,11 +242,13 @@ impl<'r, R: Files<File = File> + Clock + AllocGlobal + Clone + Drop> Folder
     fn list(&mut self, _alloc: Global) -> io::Result<Vec<String>> {
         match list_locked(self.rt, self.path.as_str()) {
             Ok(listing) => {
+                self.unreadable = listing.unreadable();
                 let names = listing.into_names();
                 self.calls.listed(names.as_slice());
                 Ok(names)
             }
             Err(fault) => {
+                self.fault = Some(fault);
                 self.calls.listed_not();
                 Err(error_of(fault))
             }
@@ -262,7 +274,7 @@ impl<'r, R: Files<File = File> + Clock + AllocGlobal + Clone + Drop> Folder
                 Ok(None)
             }
             Err(error) => {
-                self.is_unread = true;
+                self.unread = String::from_str(alloc, name).ok();
                 self.calls.unread(name);
                 Err(error)
             }
