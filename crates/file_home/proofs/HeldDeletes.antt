@@ -41,15 +41,15 @@ module _ (first : RowName) (last : ℕ) (old : Replica) (answer : Answer) (bytes
   absent_rewrites now empty lacks =
       (old, (chosen false (sym lacks), ((λ _. refl), (λ _. refl))), ap (λ (l : List ℕ). let some : Option (List ℕ) = Some l in some) empty)
 
+err_one : (x y : Refusal) → ◌≡◌ {A = Result (AnswerForm × Replica) Refusal} (Err x) (Err y) → x ≡ y
+err_one x y e = cc
+
 -- a delete that is refused is refused whether the batch is held or not
 pub delete_refused : (first : RowName) (last : ℕ) (old : Replica) (e : Refusal) → (adding (DeleteRows first last) old ≡ Err e) ⊎ (e ≡ Memory) → (deleted_if_held old first last ≡ Err e) ⊎ (e ≡ Memory)
 delete_refused first last old e (inr lack) = inr lack
 delete_refused first last old e (inl refused) = inl (of (delete_fault first last) refused)
   where
     of : (fault : Option Refusal) → tagged OfDeleteRows (unless_fault {X = Unit {0} × Replica} fault (Ok (tt, with_deleted old (rows_between first last)))) ≡ Err e
-        → unless_fault fault (cond (holds old first.batch) (Ok (true, with_deleted old (rows_between first last))) (Ok (false, old))) ≡ Err e
+        → unless_fault {X = Bool × Replica} fault (cond (holds old first.batch) (Ok (true, with_deleted old (rows_between first last))) (Ok (false, old))) ≡ Err e
     of None is = absurd (let no : ⊥ = cc in no)
     of (Some fault) is = let same : fault ≡ e = err_one fault e is in ap (λ (x : Refusal). let r : Result (Bool × Replica) Refusal = Err x in r) same
-
-    err_one : (x y : Refusal) → ◌≡◌ {A = Result (AnswerForm × Replica) Refusal} (Err x) (Err y) → x ≡ y
-    err_one x y e = cc

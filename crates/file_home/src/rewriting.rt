@@ -23,7 +23,8 @@ pub(crate) fn opened(alloc: Global, file: Vec<u8>) -> Result<Store, Refusal>
 pub(crate) fn joined(alloc: Global, held: Store, brought: Store) -> Result<Store, Refusal>
     ensures { Reads (λ store. (tt, store.replica)) result (merged held.replica brought.replica) }
 {
-    let both = Joined::new(alloc, held)?.with(alloc, brought)?;
+    let alone = Joined::new(alloc, held)?;
+    let both = alone.with(alloc, brought)?;
     both.into_store(alloc)
 }
 

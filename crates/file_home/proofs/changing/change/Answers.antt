@@ -21,20 +21,20 @@ pub returns-in_err-left-in-Ok-clause-any_moment : goal.returns-in_err-left-in-Ok
 returns-in_err-left-in-Ok-clause-any_moment g c =
     any_at answer_of has_changed (adding (command_of c.args.command)) _ _ (longer_is_other _ _ _ _ c.args.place.now.longer refl refl) _ _ _ c.in_ok-old.old.items c.in_ok-old.old.items c.in-Ok.new.items c.as_slice.result.now c.in_ok-old.ensures.read refl c.as_slice.ensures.value c.in-Ok.answer c.in-Ok.ensures (finished_any _ _ _ _ _ _ _ c.is_changed.ensures c.finish.ensures.any_moment)
 
-pub returns-in-Ok-clause-any_moment : goal.returns-in-Ok-clause-any_moment
-returns-in-Ok-clause-any_moment g c =
+pub returns-in_ok-left-in-Ok-clause-any_moment : goal.returns-in_ok-left-in-Ok-clause-any_moment
+returns-in_ok-left-in-Ok-clause-any_moment g c =
     any_at answer_of has_changed (adding (command_of c.args.command)) _ _ (longer_is_other _ _ _ _ c.args.place.now.longer refl refl) _ _ _ c.in_ok-old.old.items c.in_ok-old.old.items c.in-Ok.new.items c.as_slice.result.now c.in_ok-old.ensures.read refl c.as_slice.ensures.value c.in-Ok.answer c.in-Ok.ensures (finished_any _ _ _ _ _ _ _ c.is_changed.ensures c.finish.ensures.any_moment)
 
-pub returns-in-Ok-clause-answered : goal.returns-in-Ok-clause-answered
-returns-in-Ok-clause-answered g c =
+pub returns-in_ok-left-in-Ok-clause-answered : goal.returns-in_ok-left-in-Ok-clause-answered
+returns-in_ok-left-in-Ok-clause-answered g c =
     answered_at answer_of has_changed (adding (command_of c.args.command)) _ _ (longer_is_other _ _ _ _ c.args.place.now.longer refl refl) _ _ _ c.in_ok-old.old.items c.in_ok-old.old.items c.in-Ok.new.items c.as_slice.result.now c.in_ok-old.ensures.read refl c.as_slice.ensures.value c.in-Ok.answer c.in-Ok.ensures c.in_ok-left-in-Ok.left (finished_so _ _ _ _ _ _ _ _ c.is_changed.ensures c.in_ok-left-in-Ok.ensures.finished)
 
-pub returns-clause-any_moment : goal.returns-clause-any_moment
-returns-clause-any_moment g c =
+pub returns-in-Err-clause-any_moment : goal.returns-in-Err-clause-any_moment
+returns-in-Err-clause-any_moment g c =
     leaves (adding (command_of c.args.command)) _ _ (longer_is_other _ _ _ _ c.args.place.now.longer refl refl) _ _ (read_then_left _ _ _ _ _ _ c.in_ok-old.ensures.read c.leave.ensures.locks)
 
-pub returns-clause-refused : goal.returns-clause-refused
-returns-clause-refused g c =
+pub returns-in-Err-clause-refused : goal.returns-in-Err-clause-refused
+returns-in-Err-clause-refused g c =
     λ other. stays_old _ _ (longer_is_other _ _ _ _ c.args.place.now.longer refl refl) _ _ (read_then_left _ _ _ _ _ _ c.in_ok-old.ensures.read c.leave.ensures.locks)
 
 pub returns-in_err-old-clause-why : goal.returns-in_err-old-clause-why
@@ -47,8 +47,8 @@ returns-in_err-left-in-Ok-clause-why g c =
     let p = err_from_is_err_and c.from_residual-in_err-left-in-Ok.result c.from_residual-in_err-left-in-Ok.ensures.1 in
     rw (p.1, p.2) (fault_why _ _ _ _ (adding (command_of c.args.command)) _ _ c.in_ok-old.ensures.read c.in_err-left-in-Ok.ensures.fault.0 c.in_err-left-in-Ok.ensures.fault.2)
 
-pub returns-clause-why : goal.returns-clause-why
-returns-clause-why g c = over_why _ _ _ _ (adding (command_of c.args.command)) _ _ _ _ c.in_ok-old.ensures.read refl c.leave.ensures.locks.1 c.in-Err.ensures
+pub returns-in-Err-clause-why : goal.returns-in-Err-clause-why
+returns-in-Err-clause-why g c = over_why _ _ _ _ (adding (command_of c.args.command)) _ _ _ _ c.in_ok-old.ensures.read refl c.leave.ensures.locks.1 c.in-Err.ensures
 
 pub returns-in_err-old-clause-own : goal.returns-in_err-old-clause-own
 returns-in_err-old-clause-own g c = c.in_err-old.ensures.own
@@ -56,8 +56,8 @@ returns-in_err-old-clause-own g c = c.in_err-old.ensures.own
 pub returns-in_err-left-in-Ok-clause-own : goal.returns-in_err-left-in-Ok-clause-own
 returns-in_err-left-in-Ok-clause-own g c = read_then_gives _ _ _ _ _ _ c.in_ok-old.ensures.read c.finish.ensures.own
 
-pub returns-in-Ok-clause-own : goal.returns-in-Ok-clause-own
-returns-in-Ok-clause-own g c = read_then_gives _ _ _ _ _ _ c.in_ok-old.ensures.read c.finish.ensures.own
+pub returns-in_ok-left-in-Ok-clause-own : goal.returns-in_ok-left-in-Ok-clause-own
+returns-in_ok-left-in-Ok-clause-own g c = read_then_gives _ _ _ _ _ _ c.in_ok-old.ensures.read c.finish.ensures.own
 
-pub returns-clause-own : goal.returns-clause-own
-returns-clause-own g c = read_then_gives _ _ _ _ _ _ c.in_ok-old.ensures.read c.leave.ensures.own
+pub returns-in-Err-clause-own : goal.returns-in-Err-clause-own
+returns-in-Err-clause-own g c = read_then_gives _ _ _ _ _ _ c.in_ok-old.ensures.read c.leave.ensures.own
