@@ -1,6 +1,8 @@
 """What each command does with a folder, beside the same with a file."""
 
 import os
+import random
+import subprocess
 
 from parts import all_are_named, count, make_folder, name_of, parts_of
 
@@ -225,6 +227,30 @@ def a_link_to_a_folder_and_links_to_parts_are_read_through(room):
     room.refused("check", "d", line="refused ReadFault", sentence="d/" + "0" * 32 + ".lanes: no such file or folder")
 
 
+def peak(room, *words, given=b""):
+    """The most memory that a run took which ended well, in KiB."""
+    run = room.start(*words, stdin=subprocess.PIPE)
+    run.stdin.write(given)
+    run.stdin.close()
+    _, status, used = os.wait4(run.pid, 0)
+    assert status == 0, f"{words} ended with {status}: {run.stderr.read()[-300:]!r}"
+    return used.ru_maxrss
+
+
+def a_plain_import_next_to_one_large_part_takes_little_memory(room):
+    make_folder(room)
+    words = ("import", "--no-header", "d", "-")
+    few = peak(room, *words, given=b"7,7\n")
+    draw = random.Random(7)
+    rows = "".join(f"{at % 999},{draw.getrandbits(62)}\n" for at in range(1_000_000)).encode()
+    room.ok(*words, given=rows)
+    room.ok("pack", "--all", "d")
+    sizes = [os.path.getsize(room.path("d/" + name)) for name in parts_of(room)]
+    assert len(sizes) == 1 and sizes[0] > 8_000_000, f"the parts have {sizes} bytes"
+    many = peak(room, *words, given=b"7,7\n")
+    assert many < few + 2_048, f"an import took {many} KiB, and {few} KiB next to small parts"
+
+
 TESTS = [
     a_folder_is_made_with_one_part_that_is_the_empty_file,
     a_folder_is_not_made_over_anything,
@@ -238,6 +264,7 @@ TESTS = [
     a_pack_joins_small_parts_alone,
     a_pack_sweeps_what_nobody_holds,
     the_same_part_twice_is_one,
+    a_plain_import_next_to_one_large_part_takes_little_memory,
     rows_are_deleted_only_where_their_batch_is,
     a_link_to_a_folder_and_links_to_parts_are_read_through,
 ]

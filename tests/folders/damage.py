@@ -18,7 +18,7 @@ def a_flipped_bit_is_seen_by_each_command_and_named(room):
             room.refused(*words, line="refused Damaged", sentence=f"d/{part}: {DAMAGED}")
         room.refused("import", "--no-header", "--batch", "9.9", "d", "-", given=b"1,1\n", line="refused Damaged", sentence=f"d/{part}: {DAMAGED}")
         assert not os.path.exists(room.path("m"))
-    # An import reads the heads alone, and the smallest part whole.
+    # An import reads the heads alone, and compares the smallest part with its name.
     room.ok("import", "--no-header", "d", "-", given=b"1,1\n")
     room.put("d/" + part, data)
     assert count(room) == 7
@@ -30,6 +30,17 @@ def a_damaged_smallest_part_is_seen_by_an_import(room):
     room.put("d/" + part, room.get("d/" + part) + b"x")
     room.refused("import", "--no-header", "d", "-", given=b"1,1\n", line="refused Damaged", sentence=f"d/{part}: {DAMAGED}")
     room.refused("delete-rows", "d", "1.1", "0", "0", line="refused Damaged")
+
+
+def a_smallest_part_that_is_no_file_behind_its_head_is_for_the_next_reader(room):
+    make_folder(room, loads=3)
+    part = min(parts_of(room), key=lambda name: (os.path.getsize(room.path("d/" + name)), name))
+    data = room.get("d/" + part) + b"x"
+    os.remove(room.path("d/" + part))
+    room.put("d/" + name_of(data), data)
+    room.ok("import", "--no-header", "d", "-", given=b"1,1\n")
+    room.ok("delete-rows", "d", "1.1", "0", "0")
+    room.refused("check", "d", line=f"refused TrailingBytes {len(data) - 1}")
 
 
 def half_a_part_and_an_empty_one_are_damaged(room):
@@ -141,6 +152,7 @@ TESTS = [
     a_flipped_bit_in_a_head_is_damage,
     a_name_that_leads_nowhere_is_told_by_each_command,
     a_damaged_smallest_part_is_seen_by_an_import,
+    a_smallest_part_that_is_no_file_behind_its_head_is_for_the_next_reader,
     half_a_part_and_an_empty_one_are_damaged,
     a_part_that_is_there_and_damaged_is_not_taken_for_the_new_one,
     bytes_that_are_no_file_are_refused_under_their_own_name,

@@ -110,7 +110,7 @@ def the_faults_of_the_folder_come_before_those_of_the_other_input(room):
     room.put("rows", b"A,B\n1,x\n")
     part = min(parts_of(room), key=lambda name: (os.path.getsize(room.path("d/" + name)), name))
     data = room.get("d/" + part)
-    # The smallest part, which each command reads whole, has a byte too many behind its head.
+    # The smallest part, which each command reads to its end, has a byte too many behind its head.
     room.put("d/" + part, data + b"x")
     for words in (
         ("import", "d", "rows"),

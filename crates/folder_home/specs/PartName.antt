@@ -5,9 +5,13 @@ use Rattle.table_model.specs.Identifier.{same_text}
 use Rattle.hex.specs.Hex.{encode_lower}
 use Rattle.sha2.specs.Sha512.{sha512}
 
+-- the first 32 hexadecimal digits of a digest, and `.lanes`
+abbrev pub name_by : List ℕ → List ℕ
+name_by digest = encode_lower (take 16 digest) ++ codes ".lanes"
+
 -- the first 32 hexadecimal digits of the SHA-512, and `.lanes`
 unfoldable pub part_name : List ℕ → List ℕ
-part_name bytes = encode_lower (take 16 (sha512 bytes)) ++ codes ".lanes"
+part_name bytes = name_by (sha512 bytes)
 
 -- whether a byte is a digit from 0 to 9 or a letter from a to f
 abbrev pub is_digit : ℕ → Bool

@@ -37,6 +37,12 @@ abbrev pub IsFaultOf : PartFault → PartForm → Result Replica Refusal → Typ
 IsFaultOf Damaged part made = part.name ≢ part_name part.bytes
 IsFaultOf (Refused e) part made = (IsWhole part × (made ≡ Err e)) ⊎ IsUnread e
 
+-- a part was compared with its name, or its name is that of other bytes, or it was not read
+abbrev pub IsCompared : Result (Unit {0}) PartFault → PartForm → Type 0
+IsCompared (Ok done) part = IsWhole part
+IsCompared (Err Damaged) part = part.name ≢ part_name part.bytes
+IsCompared (Err (Refused e)) part = IsUnread e
+
 -- the first part was opened, or it is at fault
 abbrev pub OpensPart : {X : Type 0} → (X → Replica) → Result X PartFault → PartForm → Type 0
 OpensPart view (Ok x) part = IsWhole part × (held_in part.bytes ≡ Ok (view x))

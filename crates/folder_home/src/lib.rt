@@ -1,6 +1,7 @@
 //! A replica as a folder of parts: their names, their join, and the part that each command puts.
 #![tactic(auto)]
 
+mod comparing;
 mod deletes;
 mod fault;
 mod forgetting;
@@ -16,6 +17,7 @@ mod part_naming;
 mod room;
 mod writing;
 
+pub use comparing::compare_part;
 pub use deletes::{part_of_deletes, part_of_rows};
 pub use fault::{PartFault, PartRefusal};
 pub use forgetting::part_of_forget;

@@ -1,6 +1,6 @@
 //! The names of parts: a part is named by its bytes.
 ghost use Rattle.std.specs.Prelude.{◌≡◌, IfOk, string_bytes, Decides};
-ghost use Rattle.folder_home.specs.PartName.{part_name, is_digit, is_part_name};
+ghost use Rattle.folder_home.specs.PartName.{name_by, part_name, is_digit, is_part_name};
 ghost use Rattle.std.specs.List.{list_all};
 
 use sha2::{Digest, Sha512};
@@ -13,15 +13,21 @@ const DIGITS: usize = 32;
 /// What a part's name ends with.
 const ENDING: [u8; 6] = *b".lanes";
 
+/// The name of a part whose bytes have this SHA-512: its first 32 hexadecimal digits, in lower case, and `.lanes`.
+pub(crate) fn name_by(alloc: Global, digest: &[u8; 64]) -> Result<String, AllocError>
+    ensures { IfOk result (λ name. string_bytes name ≡ name_by digest.now) }
+{
+    let mut name = hex::encode(alloc, &digest[..16])?;
+    name.push_str(".lanes")?;
+    Ok(name)
+}
+
 /// The name of a part with these bytes: the first 32 hexadecimal digits of their SHA-512, in lower case, and `.lanes`.
 #[tactic(auto, unfolding(crate::specs::PartName::part_name))]
 pub fn part_name(alloc: Global, bytes: &[u8]) -> Result<String, AllocError>
     ensures { IfOk result (λ name. string_bytes name ≡ part_name bytes.now) }
 {
-    let digest = Sha512::digest(bytes);
-    let mut name = hex::encode(alloc, &digest[..16])?;
-    name.push_str(".lanes")?;
-    Ok(name)
+    name_by(alloc, &Sha512::digest(bytes))
 }
 
 /// Whether this is the name of a part with these bytes.

@@ -7,11 +7,12 @@ use crate::heads::{Headed, Heads};
 use crate::home::is_folder;
 use crate::host::Host;
 use crate::looks::Looks;
-use crate::part_failures::{HeadedPart, Unread, busy, of_folder, path_at, why_unread};
+use crate::part_failures::{HeadedPart, Unread, busy, of_folder, path_at, unread_for, why_unread};
 use crate::parts::{Opening, PartFile, Untold};
 use crate::progress::{PartCount, Progress, ToldOpening};
 use folder_home::{
-    HEAD_BYTES, Head, Part, PartRefusal, is_part, is_part_name, join_parts, open_parts, part_head,
+    HEAD_BYTES, Head, Part, PartFault, PartRefusal, compare_part, is_part_name, join_parts,
+    open_parts, part_head,
 };
 use folder_protocol::list_names;
 use part_folder::{FolderFault, SystemFolder, is_link, path_in};
@@ -236,7 +237,7 @@ fn open_paths<H: Opens, R: Files + AllocGlobal, O: Opening + Drop>(
     }
 }
 
-/// What the heads of a folder's parts say. The smallest part is read whole.
+/// What the heads of a folder's parts say. The smallest part's bytes are compared with its name.
 pub fn read_heads<R: Host>(rt: &R, folder: &str) -> Result<PartHeads, Failure> {
     let mut looks = Looks::new(rt);
     for _ in 0..u64::MAX {
@@ -280,7 +281,7 @@ impl HeadFault {
     }
 }
 
-/// What the heads of the parts of these paths say, of which there is at least one. The smallest part is read whole.
+/// What the heads of the parts of these paths say, of which there is at least one. The smallest part's bytes are compared with its name.
 fn heads_of<R: Files<File = File> + AllocGlobal>(
     rt: &R,
     paths: &[String],
@@ -317,7 +318,7 @@ fn heads_of<R: Files<File = File> + AllocGlobal>(
     let Some(schema) = found else {
         return Err(Unread::Folder);
     };
-    let _whole = open_one(rt, paths, smallest.0)?;
+    compare(rt, path_at(paths, smallest.0))?;
     Ok(PartHeads { schema, batches })
 }
 
@@ -356,26 +357,36 @@ fn of_other_head<R: Files + AllocGlobal>(
     Failure::of_tables(rt.alloc(), path, found, first, wanted)
 }
 
-/// Whether a part that can be read has other bytes than its name says.
-fn is_damaged<R: Files + AllocGlobal>(rt: &R, path: &str) -> bool {
-    match fs::read(rt, path) {
-        Ok(bytes) => match is_part(rt.alloc(), last_of(path), bytes.as_slice()) {
-            Ok(is_named) => !is_named,
-            Err(_) => false,
-        },
-        Err(_) => false,
-    }
+/// The part of this path, as it is compared with its name.
+fn named_part<'r, R: Files + AllocGlobal>(
+    rt: &'r R,
+    path: &str,
+) -> Result<Part<PartFile<'r, R, Untold>>, AllocError> {
+    let name = String::from_str(rt.alloc(), last_of(path))?;
+    let path = String::from_str(rt.alloc(), path)?;
+    Ok(Part::new(name, Counted::new(PartFile::new(rt, path, Untold))))
 }
 
-/// What the part of one of these paths holds, by its index.
-fn open_one<R: Files + AllocGlobal>(
-    rt: &R,
-    paths: &[String],
-    index: usize,
-) -> Result<OpenFile, Unread> {
-    match paths.get(index..index.saturating_add(1)) {
-        Some(path) => open_paths(rt, path, Untold),
-        None => Err(Unread::Gone),
+/// Compares the bytes of the part of this path with its name. Nothing of them is kept.
+fn compare<R: Files + AllocGlobal>(rt: &R, path: &str) -> Result<(), Unread> {
+    let mut part = named_part(rt, path)?;
+    let refusal = match compare_part(rt.alloc(), &mut part) {
+        Ok(()) => return Ok(()),
+        Err(PartFault::Refused(Refusal::ReadFault)) => {
+            let reason = part.into_reader().into_inner().reason();
+            return Err(unread_for(rt, path, reason));
+        }
+        Err(PartFault::Refused(refusal)) => CommandRefusal::from(refusal),
+        Err(PartFault::Damaged) => CommandRefusal::Damaged,
+    };
+    Err(Unread::Refused(Failure::of_file(rt, refusal, path)))
+}
+
+/// Whether a part that can be read has other bytes than its name says.
+fn is_damaged<R: Files + AllocGlobal>(rt: &R, path: &str) -> bool {
+    match named_part(rt, path) {
+        Ok(mut part) => compare_part(rt.alloc(), &mut part) == Err(PartFault::Damaged),
+        Err(_) => false,
     }
 }
 
