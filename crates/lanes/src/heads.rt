@@ -1,12 +1,15 @@
-//! What is known of inputs that are read one after another: the heads of two, which have their tables. A sentence on a refusal may name
-//! these.
+//! What is known of inputs that are read one after another: the heads of two, which have their tables, and the names of the batches of
+//! each. A sentence on a refusal may name them.
 
+use crate::batch_names::BatchNames;
+use catalogue_join::Held;
 use column_file::read_schema;
 use folder_home::HEAD_BYTES;
 use std::alloc::Global;
 use std::cell::Cell;
 use std::io::{self, Read};
-use table_model::Schema;
+use std::mem::replace;
+use table_model::{BatchName, Schema};
 
 /// The byte at which a file has its version: two bytes, the lower first.
 const VERSION_AT: usize = 4;
@@ -55,13 +58,45 @@ pub fn schema_in(alloc: Global, head: &[u8]) -> Option<Schema> {
     }
 }
 
-/// The heads of the first of some inputs, and of the one that was begun last.
+/// The names of the batches of some inputs: of each that was read, and of the one that was begun last, as far as that came.
+#[derive(Drop)]
+struct Names {
+    read: Vec<Held>,
+    last: BatchNames,
+}
+
+impl Names {
+    /// No input was begun yet.
+    fn new(alloc: Global) -> Names {
+        Names {
+            read: Vec::new(alloc),
+            last: BatchNames::new(alloc),
+        }
+    }
+
+    /// Begins the next input behind one. Without memory for the list it ends there.
+    fn begin(&mut self, alloc: Global) {
+        let before = replace(&mut self.last, BatchNames::new(alloc));
+        let _ = self.read.push(before.into_names());
+    }
+
+    /// The first input before the last that has a batch of this name.
+    fn first_with(&self, name: BatchName) -> Option<usize> {
+        self.read
+            .as_slice()
+            .iter()
+            .position(|names| names.holds(name))
+    }
+}
+
+/// The heads of the first of some inputs, and of the one that was begun last; and the names of the batches of each.
 #[derive(Drop)]
 pub struct Heads {
     alloc: Global,
     begun: Cell<usize>,
     first: Cell<Head>,
     last: Cell<Head>,
+    names: Cell<Names>,
 }
 
 impl Heads {
@@ -72,6 +107,7 @@ impl Heads {
             begun: Cell::new(0),
             first: Cell::new(Head::new(alloc)),
             last: Cell::new(Head::new(alloc)),
+            names: Cell::new(Names::new(alloc)),
         }
     }
 
@@ -82,6 +118,11 @@ impl Heads {
         if begun == 1 {
             self.first.set(before);
         }
+        if begun > 0 {
+            let mut names = self.names.replace(Names::new(self.alloc));
+            names.begin(self.alloc);
+            self.names.set(names);
+        }
         self.begun.set(begun.saturating_add(1));
     }
 
@@ -90,6 +131,9 @@ impl Heads {
         let mut head = self.last.replace(Head::new(self.alloc));
         head.add(bytes);
         self.last.set(head);
+        let mut names = self.names.replace(Names::new(self.alloc));
+        names.last.take(bytes);
+        self.names.set(names);
     }
 
     /// How many inputs were begun.
@@ -118,6 +162,14 @@ impl Heads {
     /// The head of the input that was begun last, which is not kept any longer.
     pub fn take_last(&self) -> Head {
         self.last.replace(Head::new(self.alloc))
+    }
+
+    /// The first of the inputs before the last that has a batch of this name, if one has.
+    pub fn first_with(&self, name: BatchName) -> Option<usize> {
+        let names = self.names.replace(Names::new(self.alloc));
+        let first = names.first_with(name);
+        self.names.set(names);
+        first
     }
 }
 

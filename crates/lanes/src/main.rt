@@ -1,6 +1,7 @@
 //! The program `lanes`: replicas of a table in files, queries over them, and scripts of a whole cluster.
 #![tactic(auto)]
 
+mod batch_names;
 mod beginning;
 mod change;
 mod changing;

@@ -5,12 +5,11 @@ use crate::heads::{Headed, Heads};
 use crate::parts::{Opening, PartFile};
 use folder_home::{Part, PartFault, PartRefusal};
 use part_folder::{FolderFault, is_link};
-use part_skim::{Skimmed, skim};
 use refusal_sentences::CommandRefusal;
 use std::alloc::{AllocError, AllocFailed, Global};
-use std::fs::{self, Files};
+use std::fs::Files;
 use std::io::ErrorKind;
-use table_model::{BatchName, Refusal};
+use table_model::Refusal;
 
 /// Why a look at a folder's parts came to nothing.
 #[derive(Drop)]
@@ -41,7 +40,7 @@ impl<T: Drop> From<AllocFailed<T>> for Unread {
     }
 }
 
-/// A part of a folder whose head is kept.
+/// A part of a folder whose head is kept, and the names of its batches.
 pub type HeadedPart<'r, 'h, R, O> = Part<Headed<'h, PartFile<'r, R, O>>>;
 
 /// Why a part of these paths, which were read in this order, is not taken. The heads are those of the parts.
@@ -88,8 +87,8 @@ pub fn refused<R: Files + AllocGlobal>(
         }
         PartFault::Refused(Refusal::Conflict(name)) => {
             let refusal = CommandRefusal::from(Refusal::Conflict(name));
-            match first_with(rt, paths.get(..at).unwrap_or(&[]), name) {
-                Some(other) => Failure::of_both(alloc, refusal, path, other),
+            match heads.first_with(name) {
+                Some(other) => Failure::of_both(alloc, refusal, path, path_at(paths, other)),
                 None => Failure::of_file(rt, refusal, path),
             }
         }
@@ -102,38 +101,6 @@ pub fn refused<R: Files + AllocGlobal>(
                 beginning.as_slice(),
             )
         }
-    }
-}
-
-/// The path of the first of these parts that has a batch of this name, if one has. They are read again, one after another.
-fn first_with<'p, R: Files + AllocGlobal>(
-    rt: &R,
-    paths: &'p [String],
-    name: BatchName,
-) -> Option<&'p str> {
-    paths
-        .iter()
-        .map(|path| path.as_str())
-        .find(|path| has_batch(rt, *path, name))
-}
-
-/// Whether the part of this path can be read and has a batch of this name.
-fn has_batch<R: Files + AllocGlobal>(rt: &R, path: &str, name: BatchName) -> bool {
-    match skimmed(rt, path) {
-        Ok(part) => part.names.as_slice().contains(&name),
-        Err(_) => false,
-    }
-}
-
-/// The part of this path without its values. What is no file, such as a pipe, is not read: that could wait without an end.
-fn skimmed<R: Files + AllocGlobal>(rt: &R, path: &str) -> Result<Skimmed, Refusal> {
-    match fs::metadata(rt, path) {
-        Ok(found) if found.is_file() => {}
-        _ => return Err(Refusal::ReadFault),
-    }
-    match fs::read(rt, path) {
-        Ok(bytes) => skim(rt.alloc(), bytes.as_slice()),
-        Err(_) => Err(Refusal::ReadFault),
     }
 }
 
