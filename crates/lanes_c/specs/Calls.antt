@@ -14,6 +14,7 @@ use Rattle.column_file.specs.SummaryBytes.{summary_read}
 use Rattle.replica_store.specs.Exchange.{OfferForm, SummaryForm, offered}
 use Rattle.replica_store.specs.Replica.{Replica}
 use Rattle.store_view.specs.Asked.{query_answer}
+use Rattle.replica_reading.specs.Held.{held_in, summarizing}
 use Rattle.replica_commands.specs.Commands as commands
 use Rattle.replica_reading.specs.Dumps.{dumping}
 use Rattle.replica_commands.specs.Forgetting.{forgetting}
@@ -48,11 +49,11 @@ check_of file = checked_from file >>= λ found. Ok (checked_text found)
 
 -- lanes_query: the text of a query's answer over what a file holds
 abbrev pub query_of : List ℕ → List ℕ → Result (List ℕ) Refusal
-query_of sql file = commands.held_in file >>= λ r. query_answer sql r.schema r.state >>= λ answer. Ok (answer_text answer)
+query_of sql file = held_in file >>= λ r. query_answer sql r.schema r.state >>= λ answer. Ok (answer_text answer)
 
 -- lanes_dump: the live rows of what a file holds
 abbrev pub dump_of : Bool → List ℕ → Result (List ℕ) Refusal
-dump_of has_names file = commands.held_in file >>= λ r. Ok (dumping has_names r)
+dump_of has_names file = held_in file >>= λ r. Ok (dumping has_names r)
 
 -- the line of a script that makes a table of these words
 abbrev pub line_of : List ℕ → List ℕ
@@ -73,19 +74,19 @@ create_of text = words_in (command_of (line_of text)) >>= empty_file_of
 
 -- lanes_delete: the canonical file without the rows at which a condition is true
 abbrev pub delete_of : List ℕ → List ℕ → Result (List ℕ) Refusal
-delete_of condition file = commands.file_made (commands.held_in file >>= commands.deleting condition)
+delete_of condition file = commands.file_made (held_in file >>= commands.deleting condition)
 
 -- lanes_forget: the canonical file without the batches of which every row is deleted
 abbrev pub forget_of : List ℕ → Result (List ℕ) Refusal
-forget_of file = commands.file_made (commands.held_in file >>= forgetting)
+forget_of file = commands.file_made (held_in file >>= forgetting)
 
 -- lanes_summary: the summary of what a file holds
 abbrev pub summary_of : List ℕ → Result (List ℕ) Refusal
-summary_of file = commands.held_in file >>= commands.summarizing
+summary_of file = held_in file >>= summarizing
 
 -- lanes_apply: the canonical file of what a file holds and an offer brings
 abbrev pub apply_of : List ℕ → List ℕ → Result (List ℕ) Refusal
-apply_of offer file = offer_read offer >>= λ o. commands.file_made (commands.held_in file >>= commands.applying (o ∷ []))
+apply_of offer file = offer_read offer >>= λ o. commands.file_made (held_in file >>= commands.applying (o ∷ []))
 
 -- lanes_merge: the canonical file of what two files hold
 abbrev pub merge_of : List ℕ → List ℕ → Result (List ℕ) Refusal
@@ -93,7 +94,7 @@ merge_of one other = commands.written_of (commands.merged_files one (other ∷ [
 
 -- the state that is offered of what a file holds to a summary; refused are the summary, the file, or that they are of two tables
 abbrev pub offered_of : List ℕ → List ℕ → Result State Refusal
-offered_of summary file = summary_read summary >>= λ s. commands.held_in file >>= λ r. offered r s
+offered_of summary file = summary_read summary >>= λ s. held_in file >>= λ r. offered r s
 
 -- an offer of what is open to a summary, and it is read as that
 abbrev pub OffersAt : Given → StoreForm → SummaryForm → Type 0
@@ -104,6 +105,6 @@ OffersAt (Err other) s summary = ⊥
 -- lanes_offer: the bytes are an offer of what the file holds to the summary, and are read as that
 abbrev pub OffersTo : Given → List ℕ → List ℕ → Type 0
 OffersTo (Ok bytes) summary file =
-    (r : Replica) × (s : SummaryForm) × (o : OfferForm) × (commands.held_in file ≡ Ok r) × (summary_read summary ≡ Ok s) × commands.OffersTo r s o × (bytes ≡ offer_bytes o)
+    (r : Replica) × (s : SummaryForm) × (o : OfferForm) × (held_in file ≡ Ok r) × (summary_read summary ≡ Ok s) × commands.OffersTo r s o × (bytes ≡ offer_bytes o)
 OffersTo (Err (Refused e)) summary file = (offered_of summary file ≡ Err e) ⊎ IsUnread e
 OffersTo (Err other) summary file = ⊥
