@@ -7,9 +7,7 @@ use crate::heads::{Headed, Heads};
 use crate::home::is_folder;
 use crate::host::Host;
 use crate::looks::Looks;
-use crate::part_failures::{
-    HeadedPart, Unread, busy, of_folder, path_at, unread_for, why_unread,
-};
+use crate::part_failures::{HeadedPart, Unread, busy, of_folder, path_at, unread_for, why_unread};
 use crate::parts::{Opening, PartFile, Untold};
 use crate::progress::{PartCount, Progress, ToldOpening};
 use folder_home::{
