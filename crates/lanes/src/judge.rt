@@ -67,6 +67,25 @@ impl<'a, R: Files + AllocGlobal> Judge<'a, R> {
     }
 }
 
+/// Why a part with these bytes does not go with another one, if it does not.
+fn fault_between<'x>(
+    alloc: Global,
+    heads: &'x Heads,
+    own: &'x [u8],
+    name: &str,
+    bytes: &'x [u8],
+) -> Result<Option<PartFault>, AllocError> {
+    let own_name = part_name(alloc, own)?;
+    let mut first = Part::new(own_name, Counted::new(Headed::new(heads, own)));
+    let mut others = Vec::new(alloc);
+    let reader = Counted::new(Headed::new(heads, bytes));
+    others.push(Part::new(String::from_str(alloc, name)?, reader))?;
+    match join_parts(alloc, &mut first, others.as_mut_slice()) {
+        Ok(_store) => Ok(None),
+        Err(refusal) => Ok(Some(refusal.fault)),
+    }
+}
+
 /// Whether the part with these bytes goes with one that came to its folder.
 fn go_together<R: Files + AllocGlobal>(
     rt: &R,
@@ -77,14 +96,8 @@ fn go_together<R: Files + AllocGlobal>(
 ) -> Result<(), Failure> {
     let alloc = rt.alloc();
     let heads = Heads::new(alloc);
-    let own_name = part_name(alloc, own)?;
-    let mut first = Part::new(own_name, Counted::new(Headed::new(&heads, own)));
-    let mut others = Vec::new(alloc);
-    let reader = Counted::new(Headed::new(&heads, bytes));
-    others.push(Part::new(String::from_str(alloc, name)?, reader))?;
-    let fault = match join_parts(alloc, &mut first, others.as_mut_slice()) {
-        Ok(_store) => return Ok(()),
-        Err(refusal) => refusal.fault,
+    let Some(fault) = fault_between(alloc, &heads, own, name, bytes)? else {
+        return Ok(());
     };
     let path = path_in(alloc, folder, name)?;
     Err(match fault {

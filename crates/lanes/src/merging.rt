@@ -60,7 +60,7 @@ fn merge_into_folder<R: Host>(
     out: &str,
     names: &[&str],
 ) -> Result<Left, Failure> {
-    let bytes = merged_files(rt, progress, names, names)?;
+    let bytes = merged_as_named(rt, progress, names)?;
     Ok(Left::Changed(make_folder(rt, out, bytes.as_slice())?))
 }
 
@@ -71,7 +71,7 @@ fn fill<R: Host>(
     out: &str,
     names: &[&str],
 ) -> Result<(), Failure> {
-    let bytes = merged_files(rt, progress, names, names)?;
+    let bytes = merged_as_named(rt, progress, names)?;
     write_in_place(rt, out, bytes.as_slice())
 }
 
@@ -119,6 +119,19 @@ fn has_bytes<R: Files + AllocGlobal>(rt: &R, name: &str, bytes: &[u8]) -> bool {
         }
     }
     false
+}
+
+/// The canonical file of what all of some files hold, each read under the name that it has on the command line.
+fn merged_as_named<R: Host>(
+    rt: &R,
+    progress: &Progress<'_, R>,
+    names: &[&str],
+) -> Result<Vec<u8>, Failure> {
+    let mut sources = Vec::new(rt.alloc());
+    for name in names {
+        sources.push(*name)?;
+    }
+    merged_files(rt, progress, names, sources.as_slice())
 }
 
 /// The canonical file of what all of some files hold, of which those that are the file itself are read under its own name.
