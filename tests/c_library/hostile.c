@@ -329,7 +329,7 @@ static void try_sentences(void) {
     uint8_t out[ROOM];
     lanes_place place = {7, 3};
     for (unsigned number = 0; number < 256; number++) {
-        bool is_named = number >= 1 && number <= LANES_MISSING;
+        bool is_named = number >= 1 && number <= LANES_SYSTEM;
         memset(out, FILLER, ROOM);
         size_t length = lanes_refusal((uint8_t)number, out, ROOM);
         expect((length != 0) == is_named && length <= 32 && is_untouched(out, length), "a name");

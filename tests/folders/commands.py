@@ -3,6 +3,7 @@
 import os
 import random
 import subprocess
+import sys
 
 from parts import all_are_named, count, make_folder, name_of, parts_of
 
@@ -227,14 +228,22 @@ def a_link_to_a_folder_and_links_to_parts_are_read_through(room):
     room.refused("check", "d", line="refused ReadFault", sentence="d/" + "0" * 32 + ".lanes: no such file or folder")
 
 
+# Runs a command, and prints the most memory that it took, in KiB. A process has at least what the one that started it had then, so a small
+# one starts it.
+MEASURED = """
+import os, sys
+pid = os.spawnv(os.P_NOWAIT, sys.argv[1], sys.argv[1:])
+_, status, used = os.wait4(pid, 0)
+print(used.ru_maxrss)
+sys.exit(os.waitstatus_to_exitcode(status))
+"""
+
+
 def peak(room, *words, given=b""):
     """The most memory that a run took which ended well, in KiB."""
-    run = room.start(*words, stdin=subprocess.PIPE)
-    run.stdin.write(given)
-    run.stdin.close()
-    _, status, used = os.wait4(run.pid, 0)
-    assert status == 0, f"{words} ended with {status}: {run.stderr.read()[-300:]!r}"
-    return used.ru_maxrss
+    run = subprocess.run([sys.executable, "-S", "-c", MEASURED, room.program, *words], input=given, cwd=room.folder, capture_output=True, timeout=60)
+    assert run.returncode == 0, f"{words} ended with {run.returncode}: {run.stderr[-300:]!r}"
+    return int(run.stdout.split()[-1])
 
 
 def a_plain_import_next_to_one_large_part_takes_little_memory(room):

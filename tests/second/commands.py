@@ -46,9 +46,9 @@ class Site(Maker):
         done = subprocess.run([self.program, *words], input=given, cwd=self.room, capture_output=True, timeout=60)
         return done.returncode, done.stdout, done.stderr.split(b"\n")[0]
 
-    def compared(self, words, wanted, given=b""):
-        """None where a command answers as it has to: a text, or a refusal."""
-        wanted = (1, b"", f"refused {wanted}".encode()) if isinstance(wanted, Fault) else (0, wanted.encode(), b"")
+    def compared(self, words, wanted, given=b"", note=""):
+        """None where a command answers as it has to: a text, with a note on standard error if there is one to say, or a refusal."""
+        wanted = (1, b"", f"refused {wanted}".encode()) if isinstance(wanted, Fault) else (0, wanted.encode(), note.encode())
         found = self.said(*words, given=given)
         return None if found == wanted else f"{words} {given[:300]!r}\n  second {str(wanted)[:400]}\n  program {str(found)[:400]}"
 
@@ -107,11 +107,19 @@ class Site(Maker):
 
     def imported(self, name, has_header, word, given):
         words = ["import", "--batch", f"{name[0]}.{name[1]}", *["--no-header"] * (not has_header), *["--null", word][: 2 * (word is not None)], "t", "-"]
+        note = ""
         try:
-            wanted = self.taken(name, read_rows(given, self.schema, has_header, None if word is None else word.encode()))
+            rows = read_rows(given, self.schema, has_header, None if word is None else word.encode())
+            wanted, note = self.taken(name, rows), self.note_on(name, len(rows))
         except Fault as fault:
             wanted = fault
-        return self.compared(words, wanted, given)
+        return self.compared(words, wanted, given, note)
+
+    def note_on(self, name, count):
+        """What is said if some of so many rows of a batch are deleted already."""
+        deleted = sum((*name, at) in self.state.deleted for at in range(count))
+        are = "is deleted already: it is not live" if deleted == 1 else "are deleted already: they are not live"
+        return f"note: {deleted} of the {count} rows {are}" if deleted else ""
 
     def taken(self, name, rows):
         if not rows:
