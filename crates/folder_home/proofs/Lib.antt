@@ -14,3 +14,6 @@ pub mod CanonicalJoins
 pub mod Fronts
 pub mod WholeFolders
 pub mod IdleLoads
+pub mod PartNames
+pub mod PartsCover
+pub mod StateCovers

@@ -1,3 +1,5 @@
+pub mod CoverLaws
+pub mod Covers
 pub mod FolderLaws
 pub mod Folders
 pub mod ForgetFolderLaws

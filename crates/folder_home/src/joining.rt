@@ -15,7 +15,7 @@ use table_model::{Origin, Refusal};
 
 /// The join of parts that came one after another. Contracts see the replica that has what all of them hold.
 #[derive(Drop)]
-pub(crate) struct Join {
+pub struct Join {
     joined: Joined,
 }
 

@@ -1,4 +1,5 @@
 //! The laws of folders, each the contract of a function that does nothing.
+ghost use Rattle.folder_home.specs.CoverLaws.{CoverLaws};
 ghost use Rattle.folder_home.specs.FolderLaws.{FolderLaws};
 ghost use Rattle.folder_home.specs.ForgetFolderLaws.{ForgetFolderLaws};
 
@@ -19,4 +20,11 @@ pub fn folder_laws()
 /// represent all that ever came, at every moment.
 pub fn forget_folder_laws()
     ensures { ForgetFolderLaws }
+{}
+
+/// Which parts cover which, by their bytes: a part covers itself, and each of its table of which it has every deletion, and every batch but
+/// for those of which it has all rows deleted. Covering is an order. A pack and a forget cover each part that they were made of. What covers
+/// a part represents all that it represents, and has the same rows and answers as the two joined. So the part may go.
+pub fn cover_laws()
+    ensures { CoverLaws }
 {}
