@@ -15,5 +15,5 @@ returns-clause-in_turn g c = let turn = c.args.self.now in asks_more c.next.resu
 
 pub returns-clause-ends : goal.returns-clause-ends
 returns-clause-ends g c = let turn = c.args.self.now in ends_more c.next.result _ _ c.next.ensures.ends (λ end said parts may.
-    holds_after (λ (whole : List ℕ) (calls : List Call). Says turn.order.task (matter_of turn.order) end parts calls)
+    holds_after (λ (whole : List ℕ) (calls : List Call). Says turn.order.task (matter_of turn.order) end parts g.before calls)
     c.as_slice.result.now turn.order.bytes.items c.as_slice-2.result.now turn.told.items g.before c.as_slice.ensures.value c.as_slice-2.ensures.value (said parts may))

@@ -1,0 +1,79 @@
+-- What the ends of tasks say, and that a name is among some.
+use Rattle.std.proofs.Common.{◌≡◌, ◌⊎◌, inl, inr, ⊎_elim, refl, Bool, true, false, ◌||◌, sym, ap, subst, ℕ, zero, suc, ◌<◌, slice_index_or, List, [], ◌∷◌, length, map, Option, Some, None, Result, Ok, Err, IfOk, OnOk, arith}
+use Rattle.std.specs.Prelude.{IfSome}
+use Rattle.std.specs.List.{list_any}
+use Rattle.folder_history.specs.Call.{Call}
+use Rattle.folder_history.specs.Disk.{Among}
+use Rattle.folder_history.specs.Parts.{Parts}
+use Rattle.folder_history.specs.Turn.{IsStored}
+use Rattle.folder_protocol.specs.Goes.{AreRemoved}
+use Rattle.folder_protocol.specs.Keeping.{AreKept}
+use Rattle.folder_protocol.specs.declared.putting.Outcome.{Outcome}
+use Rattle.folder_protocol.specs.declared.putting.Outcome.TheVariants.{OnDisk}
+use Rattle.folder_protocol.specs.Taking.{HasListed}
+use Rattle.folder_replay.specs.Orders.{Matter, MayTake, Says, HasOnlySeen, came, replaced, judged, kept}
+use Rattle.folder_replay.specs.declared.order.Task.{Task}
+use Rattle.folder_replay.specs.declared.order.Task.TheVariants as tasks
+use Rattle.folder_replay.specs.declared.order.End.{End}
+use Rattle.folder_replay.specs.declared.order.End.TheVariants as ends
+
+either : (a b : Bool) → (a || b) ≡ true → (a ≡ true) ⊎ (b ≡ true)
+either true b is = inl refl
+either false b is = inr is
+
+-- one that a test finds is among them
+pub found_among : {X : Type 0} (f : X → List ℕ) (t : X → Bool) (name : List ℕ) → ((x : X) → t x ≡ true → f x ≡ name) → (xs : List X) → list_any t xs ≡ true → Among name (map f xs)
+found_among f t name tells [] found = cc
+found_among f t name tells (x ∷ xs) found =
+    ⊎_elim (λ is. inl (sym (tells x is))) (λ later. inr (found_among f t name tells xs later)) (either (t x) (list_any t xs) found)
+
+-- and so is one at an index
+pub among_at : {X : Type 0} (f : X → List ℕ) (xs : List X) (k : ℕ) (v : X) → k < length xs → slice_index_or xs k v ≡ v → Among (f v) (map f xs)
+among_at f [] k v below is = absurd (omega (arith, below))
+among_at f (y ∷ xs) zero v below is = inl (ap f (sym is))
+among_at f (y ∷ xs) (suc k) v below is = inr (among_at f xs k v (omega (arith, below)) is)
+
+-- the same matter, whose texts are given
+pub same_matter : (m : Matter) (temporary name bytes : List ℕ) (names : List (List ℕ)) → temporary ≡ m.temporary → name ≡ m.name → bytes ≡ m.bytes → names ≡ m.names
+    → record { temporary = temporary; name = name; bytes = bytes; names = names } ≡ m
+same_matter m temporary name bytes names t n b ns = λ i. record { temporary = t i; name = n i; bytes = b i; names = ns i }
+
+-- what came of a part
+came_is : (a b : Outcome) → ends.Came a ≡ ends.Came b → a ≡ b
+came_is a b is = ap outcome is
+  where
+    outcome : End → Outcome
+    outcome (ends.Came how) = how
+    outcome other = OnDisk
+
+module _ {E : Type 0} (m : Matter) (parts : Parts) (before calls : List Call) where
+  -- what is said of a task's end, by which task and which end it is
+  pub of_task : (task is : Task) (end given : Result End E) (n : Matter) → task ≡ is → end ≡ given → n ≡ m
+      → (MayTake is n parts before → Says is n given parts before calls) → MayTake task m parts before → Says task m end parts before calls
+  of_task task is end given n same_task same_end same says =
+      subst (λ (t : Task). MayTake t m parts before → Says t m end parts before calls) (sym same_task)
+      (subst (λ (e : Result End E). MayTake is m parts before → Says is m e parts before calls) (sym same_end)
+      (subst (λ (o : Matter). MayTake is o parts before → Says is o given parts before calls) same says))
+
+  -- of parts that are removed
+  pub removed_says : (given : Result Outcome E) → IfOk given (λ how. how ≡ OnDisk → AreRemoved m.names before calls) → Says tasks.Remove m (came given) parts before calls
+  removed_says (Ok how) gone = λ is. gone (came_is how OnDisk is)
+  removed_says (Err error) gone = tt
+
+  -- of parts in whose place another one comes
+  pub replaced_says : (given : Result (Option Outcome) E) → IfOk given (λ answer. answer ≡ Some OnDisk → AreRemoved m.names before calls) → Says tasks.Replace m (replaced given) parts before calls
+  replaced_says (Ok (Some how)) gone = λ is. gone (ap (λ (o : Outcome). Some o) (came_is how OnDisk is))
+  replaced_says (Ok None) gone = λ is. cc
+  replaced_says (Err error) gone = tt
+
+  -- of parts that are kept
+  pub kept_says : (given : Result (Unit {0}) E) → OnOk given (AreKept parts m.names before calls) → Says tasks.KeepAll m (kept given) parts before calls
+  kept_says (Ok done) are = are
+  kept_says (Err error) are = tt
+
+  -- of a part that is to go with all that are there
+  pub judged_says : (given : Result (Option Outcome) E) → IfOk given (λ answer. answer ≡ Some OnDisk → IsStored parts m.bytes calls)
+      → IfOk given (λ answer. IfSome answer (λ how. HasOnlySeen m.names before calls)) → IfOk given (λ answer. answer ≡ None → HasListed before calls) → Says tasks.PutJudged m (judged given) parts before calls
+  judged_says (Ok (Some how)) stored seen listed = (λ is. stored (ap (λ (o : Outcome). Some o) (came_is how OnDisk is)), λ other is. seen, λ is. cc)
+  judged_says (Ok None) stored seen listed = (λ is. cc, λ other is. cc, λ is. listed refl)
+  judged_says (Err error) stored seen listed = tt
