@@ -14,3 +14,7 @@ pub mod CanonicalJoins
 pub mod Fronts
 pub mod WholeFolders
 pub mod IdleLoads
+pub mod SkimmedLoads
+pub mod SkimmedJoins
+pub mod EnoughOfParts
+pub mod SkimmedSoFar
