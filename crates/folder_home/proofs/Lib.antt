@@ -17,3 +17,7 @@ pub mod IdleLoads
 pub mod PartNames
 pub mod PartsCover
 pub mod StateCovers
+pub mod SkimmedLoads
+pub mod SkimmedJoins
+pub mod EnoughOfParts
+pub mod SkimmedSoFar

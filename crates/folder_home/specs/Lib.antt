@@ -9,3 +9,4 @@ pub mod PartName
 pub mod Parts
 pub mod PartReads
 pub mod PartsPut
+pub mod Skims

@@ -15,6 +15,8 @@ mod packing;
 mod part;
 mod part_naming;
 mod room;
+mod skimmed_part;
+mod skimming;
 mod writing;
 
 pub use comparing::compare_part;
@@ -31,3 +33,5 @@ pub use packing::{is_removed, packed_prefix};
 pub use part::Part;
 pub use part_naming::{is_part, is_part_name, part_name};
 pub use room::check_room;
+pub use skimmed_part::LoadNames;
+pub use skimming::{SkimmedParts, skim_parts};

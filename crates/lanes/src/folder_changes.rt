@@ -8,14 +8,13 @@ use crate::host::Host;
 use crate::inputs::of_other_table;
 use crate::judged_puts::put_judged;
 use crate::loading::{load_of, random_words};
+use crate::named_imports::import_named;
 use crate::offers::{OfferTables, read_offers};
 use crate::progress::Progress;
 use crate::putting::{keep_all, make_folder, put_part, unmade};
 use command_line::{CsvForm, Source};
 use file_home::{HeldRows, Left};
-use folder_home::{
-    check_room, part_of_deletes, part_of_load, part_of_named_load, part_of_offers, part_of_rows,
-};
+use folder_home::{check_room, part_of_deletes, part_of_load, part_of_offers, part_of_rows};
 use refusal_sentences::{CommandRefusal, is_of_a_text};
 use replica_commands::{Answer, DeletedRows};
 use replica_reading::OpenFile;
@@ -76,33 +75,6 @@ fn import_drawn<R: Host>(
         Ok(done) if done.new == 0 => Ok(Done::added(Answer::Imported(done), Left::Kept)),
         Ok(done) => {
             let replaced = put_part(rt, folder, writer.into_inner().as_slice())?;
-            Ok(Done::added(Answer::Imported(done), Left::Changed(replaced)))
-        }
-        Err(refusal) => Err(unmade(rt, folder, refusal)),
-    }
-}
-
-/// The same under names that begin with one that is given. Of two such loads at once under one name with other rows the second is
-/// refused.
-fn import_named<R: Host>(
-    rt: &R,
-    progress: &Progress<'_, R>,
-    folder: &str,
-    csvs: &[Source<'_>],
-    first: BatchName,
-    form: CsvForm<'_>,
-) -> Result<Done, Failure> {
-    let opened: Opened<Store> = open_folder(rt, progress, folder)?;
-    let load = load_of(rt, progress, csvs, opened.held.schema(), form)?;
-    let mut writer = Counted::new(Vec::new(rt.alloc()));
-    match part_of_named_load(rt.alloc(), &opened.held, load, first, &mut writer) {
-        Ok(done) if done.new == 0 => {
-            let left = keep_all(rt, folder, &opened.parts);
-            Ok(Done::added(Answer::Imported(done), left))
-        }
-        Ok(done) => {
-            let bytes = writer.into_inner();
-            let replaced = put_judged(rt, folder, &opened.parts, bytes.as_slice())?;
             Ok(Done::added(Answer::Imported(done), Left::Changed(replaced)))
         }
         Err(refusal) => Err(unmade(rt, folder, refusal)),
