@@ -1,3 +1,4 @@
+pub mod BroughtParts
 pub mod FolderLaws
 pub mod Folders
 pub mod ForgetFolderLaws
