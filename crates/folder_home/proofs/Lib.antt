@@ -6,6 +6,7 @@ pub mod PackedSoFar
 pub mod PartOpens
 pub mod PartsBring
 pub mod PartsInTurn
+pub mod BroughtParts
 pub mod Removals
 pub mod Removed
 pub mod SummedSoFar

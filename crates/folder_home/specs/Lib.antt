@@ -1,3 +1,4 @@
+pub mod BroughtParts
 pub mod CoverLaws
 pub mod Covers
 pub mod FolderLaws

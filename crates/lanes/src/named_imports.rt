@@ -2,20 +2,19 @@
 
 use crate::change::Done;
 use crate::failure::Failure;
+use crate::folder_changes::finish_judged;
 use crate::folders::{Opened, Parts, open_folder, parts_of, read_heads};
 use crate::heads::Heads;
 use crate::host::Host;
-use crate::judged_puts::put_judged;
 use crate::loading::load_of;
 use crate::looks::Looks;
 use crate::part_failures::{Unread, busy, why_unread};
 use crate::parts::Opening;
 use crate::progress::{PartCount, Progress, ToldOpening};
-use crate::putting::{keep_all, unmade};
+use crate::putting::unmade;
 use command_line::{CsvForm, Source};
-use file_home::Left;
-use folder_home::{LoadNames, SkimmedParts, part_of_named_load, skim_parts};
-use replica_commands::Answer;
+use folder_home::{LoadNames, SkimmedParts, part_of, skim_parts};
+use replica_commands::Command;
 use replica_store::Store;
 use std::fs::Files;
 use table_model::{BatchName, Counted};
@@ -37,16 +36,16 @@ pub fn import_named<R: Host>(
         count: load.batches() as u32,
     };
     let opened = open_for(rt, progress, folder, names)?;
+    let command = Command::Import {
+        load,
+        given: Some(first),
+        words: &[],
+    };
     let mut writer = Counted::new(Vec::new(rt.alloc()));
-    match part_of_named_load(rt.alloc(), &opened.held, load, first, &mut writer) {
-        Ok(done) if done.new == 0 => {
-            let left = keep_all(rt, folder, &opened.parts);
-            Ok(Done::added(Answer::Imported(done), left))
-        }
-        Ok(done) => {
+    match part_of(rt.alloc(), &opened.held, command, &mut writer) {
+        Ok(answer) => {
             let bytes = writer.into_inner();
-            let replaced = put_judged(rt, folder, &opened.parts, bytes.as_slice())?;
-            Ok(Done::added(Answer::Imported(done), Left::Changed(replaced)))
+            finish_judged(rt, folder, &opened.parts, answer, bytes.as_slice())
         }
         Err(refusal) => Err(unmade(rt, folder, refusal)),
     }
