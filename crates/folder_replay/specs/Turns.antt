@@ -7,7 +7,7 @@ use Rattle.folder_history.specs.Parts.{Parts}
 use Rattle.folder_history.specs.Turn.{InTurn, AllInTurn}
 use Rattle.folder_replay.specs.Calls.{call_asked, calls_after}
 use Rattle.folder_replay.specs.Coding.{coded_call}
-use Rattle.folder_replay.specs.Orders.{Matter, MayTake, Says, matter_of}
+use Rattle.folder_replay.specs.Orders.{Matter, MayTake, EndSays, matter_of}
 use Rattle.folder_replay.specs.declared.order.End.{End}
 use Rattle.folder_replay.specs.declared.order.Task.{Task}
 use Rattle.folder_replay.specs.declared.order.Task.TheVariants as tasks
@@ -49,7 +49,7 @@ AsksInTurn before state =
 
 -- An end says of the calls told what the task says.
 abbrev pub EndsSaying : {E : Type 0} → List Call → State → Result End E → Type 0
-EndsSaying before state end = (parts : Parts) → MayTake state.task state.matter parts before → Says state.task state.matter end parts before (state.calls ++ before)
+EndsSaying before state end = (parts : Parts) → MayTake state.task state.matter parts before → EndSays state.task state.matter end parts before (state.calls ++ before)
 
 -- Another call is asked for, or none; the rest is as it was.
 abbrev pub IsSame : State → State → Type 0

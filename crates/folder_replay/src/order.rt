@@ -1,6 +1,6 @@
 //! What is to be done with a folder, as a value.
 ghost use Rattle.std.specs.Prelude.{◌≡◌};
-ghost use Rattle.folder_replay.specs.Orders.{MayTake, Says, matter_of, came, replaced, judged, listed, kept};
+ghost use Rattle.folder_replay.specs.Orders.{EndSays, MayTake, matter_of, came, replaced, judged, listed, kept};
 
 use crate::program::Program;
 use crate::seen::Seen;
@@ -111,7 +111,7 @@ impl Program for Order {
 
     ghost may_run = { λ order parts before. MayTake order.task (matter_of order) parts before };
 
-    ghost says = { λ order result parts before calls. Says order.task (matter_of order) result parts before calls };
+    ghost says = { λ order result parts before calls. EndSays order.task (matter_of order) result parts before calls };
 
     fn run<F: Folder>(&self, alloc: Global, folder: &mut F) -> io::Result<End> {
         let (temporary, name) = (self.temporary.as_str(), self.name.as_str());
