@@ -1,12 +1,11 @@
 -- What is read of one part is enough: its deletions, if it has none of the names, and else all of it.
-use Rattle.std.specs.Prelude.{◌≡◌, ◌⊎◌, ℕ, ◌+◌, ◌≤◌, Bool, true, false, cond, ◌||◌, List, [], ◌∷◌, length, Option, Some, None, is_some, Result, Ok, Err, IsTrue}
+use Rattle.std.specs.Prelude.{◌≡◌, ℕ, ◌+◌, ◌≤◌, Bool, true, false, ◌||◌, List, [], ◌∷◌, length, Option, Some, None, is_some, Result, Ok, Err}
 use Rattle.std.proofs.Common.{refl, sym, ap, subst, ◌∙◌, inl, inr, arith}
 use Rattle.std.specs.List.{list_any}
 use Rattle.std.specs.Ordering.{eq_by_cmp}
 use Rattle.std.specs.FinMap as map
 use Rattle.std.specs.FinSet as set
 use Rattle.table_model.specs.Name.{name_cmp, row_name_cmp}
-use Rattle.table_model.specs.Outcome.{Gives}
 use Rattle.table_model.specs.Reading.{Reads}
 use Rattle.table_model.specs.State.{Batch}
 use Rattle.table_model.specs.Table.{Table}
@@ -18,7 +17,6 @@ use Rattle.table_model.proofs.Operations.{same_name}
 use Rattle.segment_core.specs.Format.{AreBytes}
 use Rattle.segment_core.proofs.FormatLaws.{bind_ok, ok_is}
 use Rattle.column_file.specs.Files.{canonical_read}
-use Rattle.column_file.specs.Input.{IsUnread}
 use Rattle.part_skim.specs.Skimming.{FilesAreSkimmed, IsSkimmed, skim_in}
 use Rattle.replica_store.specs.Exchange.{OfferForm, offering, opened}
 use Rattle.replica_store.specs.Replica.{Replica, batch_limit, merged, names_of, with_join}
@@ -29,7 +27,7 @@ use Rattle.replica_store.proofs.RowsIn.{entries-rows_in}
 use Rattle.replica_commands.specs.Loads.{is_one_of}
 use Rattle.replica_reading.specs.Held.{held_in}
 use Rattle.folder_home.specs.Parts.{IsFaultOf, IsWhole, OpensPart, PartForm}
-use Rattle.folder_home.specs.Skims.{IsEnough, IsUnreadPart, KnowsEnough, SkimsPart}
+use Rattle.folder_home.specs.Skims.{IsEnough, IsUnreadPart, KnowsEnough}
 use Rattle.folder_home.specs.declared.fault.PartFault.{PartFault}
 use Rattle.folder_home.specs.declared.fault.PartFault.TheVariants.{Damaged, Refused}
 use Rattle.folder_home.proofs.SkimmedJoins.{joined_count, joined_enough, joined_limit, joined_merges, knows_itself}
@@ -71,7 +69,7 @@ deletions_enough law first count bytes r s offer t names rows n fit held skims o
     let is : offering (record { 0 = 1 }) o ≡ r = ok_is (offering (record { 0 = 1 }) o) r read.2 in
     let known : offering (record { 0 = 1 }) offer ≡ s = same_Ok (offering (record { 0 = 1 }) offer) s made in
     let skimmed : IsSkimmed bytes o = law bytes o fit read.1 in
-    let same : (t, (names, rows)) ≡ (o.schema, (skimmed.names, o.state.deleted)) = same_Ok (t, (names, rows)) (o.schema, (skimmed.names, o.state.deleted)) (sym skims ∙ skimmed.found) in
+    let same : ◌≡◌ {A = Table × (List BatchName × set.FinSet row_name_cmp)} (t, (names, rows)) (o.schema, (skimmed.names, o.state.deleted)) = same_Ok (t, (names, rows)) (o.schema, (skimmed.names, o.state.deleted)) (sym skims ∙ skimmed.found) in
     let listed : names ≡ skimmed.names = ap (λ (p : Table × (List BatchName × set.FinSet row_name_cmp)). p.1.0) same in
     let held_by : (name : BatchName) → set.contains (names_of r.state.batches) name ≡ list_any (eq_by_cmp name_cmp name) names =
     λ name. ap (λ (x : Replica). set.contains (names_of x.state.batches) name) (sym is)
@@ -135,4 +133,4 @@ pub unjoined_part : {J : Type 0} (view : J → Unit {0} × Replica) (first : Bat
 unjoined_part view first count known held part whole new n m e enough more made (inr lack) = lack
 unjoined_part view first count known held part whole new n m e enough more made (inl refused) =
     let merges = joined_merges first count known held part whole new enough.knows more.knows made in
-    let bad : Err e ≡ Ok (tt, with_join known part) = sym refused ∙ merges in cc
+    let bad : ◌≡◌ {A = Result (Unit {0} × Replica) Refusal} (Err e) (Ok (tt, with_join known part)) = sym refused ∙ merges in cc

@@ -1,9 +1,8 @@
 -- What is enough of each of two replicas is enough of their join.
-use Rattle.std.specs.Prelude.{◌≡◌, ◌⊎◌, ℕ, ◌+◌, ◌≤◌, false, Bool, List, Option, Some, None, is_some, Ok, IsTrue}
-use Rattle.std.proofs.Common.{refl, sym, ap, subst, ◌∙◌, inl, inr, arith}
+use Rattle.std.specs.Prelude.{◌≡◌, ℕ, ◌+◌, ◌≤◌, Option, Some, None}
+use Rattle.std.proofs.Common.{refl, sym, ap, subst, ◌∙◌, arith}
 use Rattle.std.specs.FinMap as map
 use Rattle.std.specs.FinSet as set
-use Rattle.table_model.specs.Name.{name_cmp}
 use Rattle.table_model.specs.State.{Agree, Batch, union_of}
 use Rattle.table_model.specs.declared.names.BatchName.{BatchName}
 use Rattle.table_model.proofs.Joins.{or_else, get-union}
@@ -11,7 +10,6 @@ use Rattle.replica_store.specs.MergeLaws.{Merges}
 use Rattle.replica_store.specs.Replica.{Replica, batch_limit, with_join}
 use Rattle.replica_store.proofs.JoinedStores.{len-sum}
 use Rattle.replica_store.proofs.MergeAnswers.{is_merge, merges}
-use Rattle.replica_commands.specs.Loads.{is_one_of}
 use Rattle.folder_home.specs.Skims.{KnowsEnough}
 use Rattle.folder_home.proofs.SkimmedLoads.{len_within}
 

@@ -1,9 +1,8 @@
 -- A load under given names sees no batch of another name: what it answers and brings is the same from a replica that knows enough.
-use Rattle.std.specs.Prelude.{◌≡◌, ℕ, suc, ◌+◌, ◌≤◌, ◌<◌, ◌-◌, Bool, true, false, cond, not, ◌&&◌, ◌==◌, nat_le, nat_lt, List, [], ◌∷◌, length, Option, Some, None, is_some, Result, Ok, Err, IsTrue}
+use Rattle.std.specs.Prelude.{◌≡◌, ℕ, ◌+◌, ◌≤◌, ◌<◌, ◌-◌, Bool, true, false, cond, ◌&&◌, ◌==◌, nat_le, nat_lt, List, [], ◌∷◌, length, Option, Some, None, is_some, Ok, Err, IsTrue}
 use Rattle.std.proofs.Common.{refl, sym, ap, subst, ◌∙◌, arith}
 use Rattle.std.proofs.lemmas.Bool.Decides.{nat_tests}
 use Rattle.std.specs.Bool.{passes}
-use Rattle.std.specs.Ordering.{eq_by_cmp}
 use Rattle.std.specs.FinMap as map
 use Rattle.std.specs.FinSet as set
 use Rattle.table_model.specs.Name.{name_cmp, is_proper_name}
@@ -13,13 +12,11 @@ use Rattle.table_model.specs.Table.{same_table}
 use Rattle.table_model.specs.declared.names.BatchName.{BatchName}
 use Rattle.table_model.specs.declared.refusal.Refusal.{Refusal}
 use Rattle.table_model.specs.declared.refusal.Refusal.TheVariants.{BadName, NumbersSpent, Full, SchemaDiffers}
-use Rattle.table_model.proofs.Joins.{or_else, get-union, same_maps, same_states}
+use Rattle.table_model.proofs.Joins.{or_else, get-union, same_maps}
 use Rattle.table_model.proofs.NameOrder.{names_total}
-use Rattle.catalogue_join.specs.Run.{name_at}
-use Rattle.replica_store.specs.Brought.{unheld_state}
 use Rattle.replica_store.specs.Exchange.{unlisted}
 use Rattle.replica_store.specs.Forgets.{row_count}
-use Rattle.replica_store.specs.Replica.{Replica, batch_limit, conflict_or_full, conflict_with, differs, entries_of, lacked_by, merge_fault, merged, names_of, unless_fault, with_join}
+use Rattle.replica_store.specs.Replica.{Replica, batch_limit, conflict_or_full, conflict_with, differs, entries_of, lacked_by, merge_fault, names_of, unless_fault, with_join}
 use Rattle.replica_store.proofs.JoinedStores.{len-sum}
 use Rattle.replica_store.proofs.Maps.{as_map, entries-as_map, get-as_map}
 use Rattle.replica_store.proofs.Merges.{len-union}

@@ -1,12 +1,11 @@
 -- Parts are skimmed one after another: what was read of those before a place is enough of them, and the readers from there on are as
 -- they were.
-use Rattle.std.specs.Prelude.{◌≡◌, ℕ, zero, suc, ◌+◌, ◌<◌, ◌≤◌, List, [], ◌∷◌, length, take, Option, Result, Ok, Err}
-use Rattle.std.proofs.Common.{refl, sym, ap, subst, ◌∙◌, arith, drop, get_or, set}
+use Rattle.std.specs.Prelude.{◌≡◌, ℕ, zero, suc, ◌+◌, ◌<◌, ◌≤◌, List, [], ◌∷◌, length, Option, Result, Ok, Err}
+use Rattle.std.proofs.Common.{refl, sym, subst, ◌∙◌, arith, drop, get_or, set}
 use Rattle.std.proofs.lemmas.List.{drop-set-lt}
 use Rattle.table_model.specs.Reading.{◌>>=◌}
 use Rattle.table_model.specs.declared.names.BatchName.{BatchName}
-use Rattle.table_model.specs.declared.refusal.Refusal.{Refusal}
-use Rattle.replica_store.specs.Replica.{Replica, batch_limit, merged}
+use Rattle.replica_store.specs.Replica.{Replica, merged}
 use Rattle.replica_reading.specs.Held.{held_in}
 use Rattle.replica_commands.specs.Commands.{merged_with}
 use Rattle.replica_commands.proofs.FileLaws.{ok_one, bound_parts}

@@ -11,7 +11,7 @@ ghost use Rattle.folder_home.specs.Skims.{SkimsDeletions, SkimsPart};
 
 use crate::fault::PartFault;
 use crate::joining::open_part;
-use part_skim::{Skimmed, skim};
+use part_skim::skim;
 use replica_store::{Offer, Store};
 use std::alloc::Global;
 use table_model::{BatchName, Origin, Refusal};

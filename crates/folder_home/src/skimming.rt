@@ -102,8 +102,7 @@ impl Skim {
         bytes: &[u8],
         names: LoadNames,
     ) -> Result<Skim, PartFault>
-        ensures skimmed { (held r new : Replica) → IsWhole (record { name = name.now; bytes = bytes.now }) → held_in bytes.now ≡ Ok r → merged held r ≡ Ok (tt, new) →
-            IsEnough names.first names.count self.joined.replica self.batches held → SkimsPart (λ skim. skim.joined.replica) (λ skim. skim.batches) result names.first names.count new }
+        ensures skimmed { (held r new : Replica) → IsWhole (record { name = name.now; bytes = bytes.now }) → held_in bytes.now ≡ Ok r → merged held r ≡ Ok (tt, new) → IsEnough names.first names.count self.joined.replica self.batches held → SkimsPart (λ skim. skim.joined.replica) (λ skim. skim.batches) result names.first names.count new }
         ensures listed { IfErr result (λ fault. IsListed is_refusal_of_part fault) }
     {
         let part = skim_part(alloc, name, bytes, names)?;
@@ -134,8 +133,7 @@ fn skim_next<R: Read>(
     part: &mut Part<R>,
     names: LoadNames,
 ) -> Result<Skim, PartFault>
-    ensures skimmed { (form : PartForm) (held r new : Replica) → IsPart R.remaining part.old form → IsWhole form → held_in form.bytes ≡ Ok r → merged held r ≡ Ok (tt, new) →
-        IsEnough names.first names.count skim.joined.replica skim.batches held → SkimsPart (λ next. next.joined.replica) (λ next. next.batches) result names.first names.count new }
+    ensures skimmed { (form : PartForm) (held r new : Replica) → IsPart R.remaining part.old form → IsWhole form → held_in form.bytes ≡ Ok r → merged held r ≡ Ok (tt, new) → IsEnough names.first names.count skim.joined.replica skim.batches held → SkimsPart (λ next. next.joined.replica) (λ next. next.batches) result names.first names.count new }
     ensures ends { EndsPart R.remaining result part.old part.new }
 {
     let bytes = part.read(alloc)?;
@@ -149,8 +147,7 @@ fn skim_others<R: Read>(
     parts: &mut [Part<R>],
     names: LoadNames,
 ) -> Result<Skim, PartRefusal>
-    ensures skimmed { (forms : List PartForm) (held whole : Replica) → AreParts R.remaining parts.old forms → AreWhole forms → merged_with held (bytes_of forms) ≡ Ok whole →
-        IsEnough names.first names.count first.joined.replica first.batches held → SkimsAll (λ skim. skim.joined.replica) (λ skim. skim.batches) result names.first names.count whole }
+    ensures skimmed { (forms : List PartForm) (held whole : Replica) → AreParts R.remaining parts.old forms → AreWhole forms → merged_with held (bytes_of forms) ≡ Ok whole → IsEnough names.first names.count first.joined.replica first.batches held → SkimsAll (λ skim. skim.joined.replica) (λ skim. skim.batches) result names.first names.count whole }
     ensures ends { EndsOthers R.remaining result parts.old parts.new }
 {
     let mut skim = first;
@@ -170,8 +167,7 @@ fn skim_all<R: Read>(
     others: &mut [Part<R>],
     names: LoadNames,
 ) -> Result<Skim, PartRefusal>
-    ensures skimmed { (form : PartForm) (forms : List PartForm) (whole : Replica) → IsPart R.remaining first.old form → AreParts R.remaining others.old forms → OpensParts {X = Replica} (λ r. r) (Ok whole) form forms →
-        SkimsAll (λ skim. skim.joined.replica) (λ skim. skim.batches) result names.first names.count whole }
+    ensures skimmed { (form : PartForm) (forms : List PartForm) (whole : Replica) → IsPart R.remaining first.old form → AreParts R.remaining others.old forms → OpensParts {X = Replica} (λ r. r) (Ok whole) form forms → SkimsAll (λ skim. skim.joined.replica) (λ skim. skim.batches) result names.first names.count whole }
     ensures ends { EndsAll R.remaining result (first.old ∷ others.old) (first.new ∷ others.new) }
 {
     match skim_first(alloc, first, names) {
@@ -194,8 +190,7 @@ pub fn skim_parts<R: Read>(
     others: &mut [Part<R>],
     names: LoadNames,
 ) -> Result<SkimmedParts, PartRefusal>
-    ensures answers { (form : PartForm) (forms : List PartForm) (whole : Replica) → IsPart R.remaining first.old form → AreParts R.remaining others.old forms → OpensParts {X = Replica} (λ r. r) (Ok whole) form forms →
-        SkimsParts (λ parts. parts.held.replica) (λ parts. parts.batches) result names.first names.count whole }
+    ensures answers { (form : PartForm) (forms : List PartForm) (whole : Replica) → IsPart R.remaining first.old form → AreParts R.remaining others.old forms → OpensParts {X = Replica} (λ r. r) (Ok whole) form forms → SkimsParts (λ parts. parts.held.replica) (λ parts. parts.batches) result names.first names.count whole }
     // Which refusals there are, and how the readers are left.
     ensures ends { EndsParts R.remaining is_refusal_of_parts result (first.old ∷ others.old) (first.new ∷ others.new) }
 {

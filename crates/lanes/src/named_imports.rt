@@ -51,7 +51,7 @@ pub fn import_named<R: Host>(
     }
 }
 
-/// What answers a load under these names as all parts of a folder do: what is skimmed of them, or, where that may not do, what all of
+/// What answers a load under these names as all parts of a folder do: what is skimmed of them, if that is enough, and else what all of
 /// them hold.
 fn open_for<R: Host>(
     rt: &R,

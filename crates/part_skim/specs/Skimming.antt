@@ -50,6 +50,6 @@ pub record IsSkimmed (bytes : List ℕ) (o : OfferForm) : Type 0 where
   pub same_names : set.from_list names ≡ names_of o.state.batches
   pub count : length names ≡ finite.len o.state.batches
 
--- so it is of each file that opens
+-- of bytes that open as a file exactly its schema, the names of its batches and its deleted rows are skimmed
 abbrev pub FilesAreSkimmed : Type 0
 FilesAreSkimmed = (bytes : List ℕ) (o : OfferForm) → AreBytes bytes → canonical_read bytes ≡ Ok o → IsSkimmed bytes o

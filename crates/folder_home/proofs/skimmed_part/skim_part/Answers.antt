@@ -1,6 +1,6 @@
 -- Its deletions are enough, or it is opened.
 use Rattle.std.proofs.Common.{subst}
-use Rattle.std.specs.Prelude.{Option, Ok, Some}
+use Rattle.std.specs.Prelude.{Option, Ok}
 use Rattle.folder_home.specs.Skims.{SkimsDeletions}
 use Rattle.folder_home.specs.declared.skimmed_part.SkimmedPart.{SkimmedPart}
 use Rattle.folder_home.proofs.skimmed_part.skim_part.Goals as goal

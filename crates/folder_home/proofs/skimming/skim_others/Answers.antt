@@ -2,7 +2,7 @@
 use Rattle.std.proofs.Common.{sym, arith}
 use Rattle.replica_commands.proofs.FileMerges.{long_as}
 use Rattle.folder_home.proofs.PartsInTurn.{part_next, others_stop, parts_read}
-use Rattle.folder_home.proofs.SkimmedSoFar.{SkimForm, skimmed_none, skimmed_next, skimmed_stops, skimmed_all}
+use Rattle.folder_home.proofs.SkimmedSoFar.{SkimForm, skimmed_next, skimmed_stops, skimmed_all}
 use Rattle.folder_home.proofs.skimming.skim_others.Goals as goal
 
 pub loop-index-preserved : goal.loop-index-preserved

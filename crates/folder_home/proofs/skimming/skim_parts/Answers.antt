@@ -1,7 +1,6 @@
 -- What was read of all parts answers the loads.
 use Rattle.std.proofs.Common.{ap}
 use Rattle.std.proofs.lemmas.Result.{err_from_is_err_and}
-use Rattle.table_model.specs.declared.refusal.Refusal.TheVariants.{Memory}
 use Rattle.replica_store.specs.Segments.{StoreForm}
 use Rattle.replica_store.proofs.Limits.{same_Ok}
 use Rattle.folder_home.proofs.PartsInTurn.{all_refused, all_lack, lack_is}
