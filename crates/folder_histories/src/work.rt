@@ -79,7 +79,7 @@ impl Program for Work {
 
     ghost may_run = { λ work parts before. ⊥ };
 
-    ghost says = { λ work outcome parts calls. Unit {0} };
+    ghost says = { λ work outcome parts before calls. Unit {0} };
 
     fn run<F: Folder>(&self, alloc: Global, folder: &mut F) -> io::Result<Came> {
         match self {

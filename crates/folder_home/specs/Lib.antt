@@ -1,3 +1,4 @@
+pub mod BroughtParts
 pub mod CoverLaws
 pub mod Covers
 pub mod FolderLaws
@@ -9,3 +10,4 @@ pub mod PartName
 pub mod Parts
 pub mod PartReads
 pub mod PartsPut
+pub mod Skims

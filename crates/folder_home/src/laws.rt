@@ -2,6 +2,7 @@
 ghost use Rattle.folder_home.specs.CoverLaws.{CoverLaws};
 ghost use Rattle.folder_home.specs.FolderLaws.{FolderLaws};
 ghost use Rattle.folder_home.specs.ForgetFolderLaws.{ForgetFolderLaws};
+ghost use Rattle.folder_home.specs.BroughtParts.{PartsAreBrought};
 
 /// Folders whose parts hold the same operations have the same joined file, byte for byte, and the same replica, so the same answers: in
 /// whatever order, however often and in however many parts it lies. A part that comes adds what it holds. A pack keeps what a folder
@@ -11,6 +12,12 @@ ghost use Rattle.folder_home.specs.ForgetFolderLaws.{ForgetFolderLaws};
 /// have the same file.
 pub fn folder_laws()
     ensures { FolderLaws }
+{}
+
+/// What a command brings to what all parts hold is the part that the laws of folders speak of; and so is what an import under a drawn name
+/// and a delete by names bring to an empty table. Such a delete always has something to put.
+pub fn parts_are_brought()
+    ensures { PartsAreBrought }
 {}
 
 /// What the parts of a folder represent are operations, some of whose batches may have been forgotten. A pack and a forget represent all

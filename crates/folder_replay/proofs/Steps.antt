@@ -48,7 +48,8 @@ run_asks parts whole request before old new calls began (since, is) goes all =
     in_turn_before parts since _ (subst (λ (l : List Call). AllInTurn parts l) is (goes.2 (subst (λ (l : List Call). AllInTurn parts l) (sym began) all)))
 
 -- what a run has come to says what the program says
-pub run_ends : {T : Type 0} (may : List Call → Type 0) (says : T → List Call → Type 0) (end outcome : T) (before old new calls : List Call) → old ≡ before
-    → (end ≡ outcome) × (new ≡ calls) → (may old → says outcome new) → may before → says end calls
+pub run_ends : {T : Type 0} (may : List Call → Type 0) (says : T → List Call → List Call → Type 0) (end outcome : T) (before old new calls : List Call) → old ≡ before
+    → (end ≡ outcome) × (new ≡ calls) → (may old → says outcome old new) → may before → says end before calls
 run_ends may says end outcome before old new calls began (same, is) said m =
-    subst (λ x. says x calls) (sym same) (subst (λ (l : List Call). says outcome l) is (said (subst may (sym began) m)))
+    subst (λ x. says x before calls) (sym same)
+    (subst (λ (l : List Call). says outcome before l) is (subst (λ (l : List Call). says outcome l new) began (said (subst may (sym began) m))))

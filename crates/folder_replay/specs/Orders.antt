@@ -1,12 +1,16 @@
 -- When an order may be followed, and what its end says.
-use Rattle.std.specs.Prelude.{◌≡◌, ℕ, List, map, Option, Some, None, Result, Ok, Err, IfOk}
+use Rattle.std.specs.Prelude.{◌≡◌, ℕ, List, map, Option, Some, None, Result, Ok, Err, IfOk, MatchResult}
 use Rattle.std.specs.String.{string_bytes}
 use Rattle.std.specs.Global.{Global, Vec}
 use Rattle.std.specs.declared.string.String.{String}
 use Rattle.folder_history.specs.Call.{Call}
 use Rattle.folder_history.specs.Parts.{Parts, IsNoPart}
 use Rattle.folder_history.specs.Turn.{Gave, IsStored, listing_of}
-use Rattle.folder_protocol.specs.Goes.{AreJoined}
+use Rattle.folder_history.specs.Disk.{Among}
+use Rattle.folder_protocol.specs.Causes.{Fails, HasCall, Lacks, LookCause}
+use Rattle.folder_protocol.specs.Goes.{AreJoined, AreRemoved}
+use Rattle.folder_protocol.specs.Keeping.{AreKept}
+use Rattle.folder_protocol.specs.Taking.{HasListed, HasOnlyPassed}
 use Rattle.folder_protocol.specs.declared.putting.Outcome.{Outcome}
 use Rattle.folder_protocol.specs.declared.putting.Outcome.TheVariants.{OnDisk}
 use Rattle.folder_replay.specs.declared.order.Task.{Task}
@@ -35,13 +39,41 @@ MayTake tasks.Replace m parts before = (m.name ≡ parts.name_of m.bytes) × IsN
 MayTake tasks.Remove m parts before = (m.name ≡ parts.name_of m.bytes) × AreJoined parts m.bytes m.names before
 MayTake tasks.List m parts before = Unit {0}
 MayTake tasks.KeepAll m parts before = Unit {0}
+MayTake tasks.PutJudged m parts before = (m.name ≡ parts.name_of m.bytes) × IsNoPart parts m.temporary
 
--- what the end of a task says of all calls: a part that is on the disk is stored, and names are those of the last listing
-abbrev pub Says : {E : Type 0} → Task → Matter → Result End E → Parts → List Call → Type 0
-Says tasks.Put m result parts calls = IfOk result (λ end. end ≡ ends.Came OnDisk → IsStored parts m.bytes calls)
-Says tasks.Keep m result parts calls = IfOk result (λ end. end ≡ ends.Came OnDisk → IsStored parts m.bytes calls)
-Says tasks.List m result parts calls = IfOk result (λ end. (names : Vec (String Global)) → end ≡ ends.Listed names → listing_of calls ≡ Gave (map string_bytes names.items))
-Says task m result parts calls = Unit {0}
+-- a listing gave no names but these
+abbrev pub HasOnlySeen : List (List ℕ) → List Call → List Call → Type 0
+HasOnlySeen names before calls = HasOnlyPassed (λ name. Among name names) before calls
+
+-- What the end of a task says of all calls, after those before: a part that is on the disk is stored; names are those of the last listing; the
+-- parts of these names were removed, or are kept; and a part was put only if a listing gave no names but those that were seen.
+abbrev pub Says : {E : Type 0} → Task → Matter → Result End E → Parts → List Call → List Call → Type 0
+Says tasks.Put m result parts before calls = IfOk result (λ end. end ≡ ends.Came OnDisk → IsStored parts m.bytes calls)
+Says tasks.Keep m result parts before calls = IfOk result (λ end. end ≡ ends.Came OnDisk → IsStored parts m.bytes calls)
+Says tasks.Replace m result parts before calls = IfOk result (λ end. end ≡ ends.Came OnDisk → AreRemoved m.names before calls)
+Says tasks.Remove m result parts before calls = IfOk result (λ end. end ≡ ends.Came OnDisk → AreRemoved m.names before calls)
+Says tasks.List m result parts before calls =
+    IfOk result (λ end. (names : Vec (String Global)) → end ≡ ends.Listed names → listing_of calls ≡ Gave (map string_bytes names.items))
+Says tasks.KeepAll m result parts before calls = IfOk result (λ end. AreKept parts m.names before calls)
+Says tasks.PutJudged m result parts before calls =
+    IfOk result (λ end. (end ≡ ends.Came OnDisk → IsStored parts m.bytes calls) × ((how : Outcome) → end ≡ ends.Came how → HasOnlySeen m.names before calls))
+
+-- What an end comes of: what came of a part has its cause, as a sync that failed; a listing did not give one of these names; or a listing gave
+-- names, of which one was not seen.
+abbrev pub EndCause : Matter → End → List Call → List Call → Type 0
+EndCause m (ends.Came how) before calls = LookCause how m.name m.bytes before calls
+EndCause m ends.Overtaken before calls = HasCall (Lacks m.names) before calls
+EndCause m ends.Unseen before calls = HasListed before calls
+EndCause m (ends.Listed names) before calls = Unit {0}
+EndCause m ends.Kept before calls = Unit {0}
+
+-- An end has its cause, and an error is that of a call that failed.
+abbrev pub Caused : {E : Type 0} → Matter → Result End E → List Call → List Call → Type 0
+Caused m result before calls = MatchResult result (λ end. EndCause m end before calls) (λ error. HasCall Fails before calls)
+
+-- what is said once an order is followed: what the end of its task says, and its cause
+abbrev pub EndSays : {E : Type 0} → Task → Matter → Result End E → Parts → List Call → List Call → Type 0
+EndSays task m result parts before calls = Says task m result parts before calls × Caused m result before calls
 
 -- the end of a task that is about one part
 abbrev pub came : {E : Type 0} → Result Outcome E → Result End E
@@ -53,6 +85,12 @@ abbrev pub replaced : {E : Type 0} → Result (Option Outcome) E → Result End 
 replaced (Ok (Some outcome)) = Ok (ends.Came outcome)
 replaced (Ok None) = Ok ends.Overtaken
 replaced (Err error) = Err error
+
+-- of a put of a part that is to go with all that are there
+abbrev pub judged : {E : Type 0} → Result (Option Outcome) E → Result End E
+judged (Ok (Some outcome)) = Ok (ends.Came outcome)
+judged (Ok None) = Ok ends.Unseen
+judged (Err error) = Err error
 
 -- of a listing
 abbrev pub listed : {E : Type 0} → Result (Vec (String Global)) E → Result End E

@@ -7,7 +7,7 @@ use Rattle.folder_history.specs.Parts.{Parts}
 use Rattle.folder_history.specs.Turn.{InTurn, AllInTurn}
 use Rattle.folder_replay.specs.Calls.{call_asked, calls_after}
 use Rattle.folder_replay.specs.Coding.{coded_call}
-use Rattle.folder_replay.specs.Orders.{Matter, MayTake, Says, matter_of}
+use Rattle.folder_replay.specs.Orders.{Matter, MayTake, EndSays, matter_of}
 use Rattle.folder_replay.specs.declared.order.End.{End}
 use Rattle.folder_replay.specs.declared.order.Task.{Task}
 use Rattle.folder_replay.specs.declared.order.Task.TheVariants as tasks
@@ -49,7 +49,7 @@ AsksInTurn before state =
 
 -- An end says of the calls told what the task says.
 abbrev pub EndsSaying : {E : Type 0} → List Call → State → Result End E → Type 0
-EndsSaying before state end = (parts : Parts) → MayTake state.task state.matter parts before → Says state.task state.matter end parts (state.calls ++ before)
+EndsSaying before state end = (parts : Parts) → MayTake state.task state.matter parts before → EndSays state.task state.matter end parts before (state.calls ++ before)
 
 -- Another call is asked for, or none; the rest is as it was.
 abbrev pub IsSame : State → State → Type 0
@@ -65,6 +65,7 @@ number tasks.Replace = 2
 number tasks.Remove = 3
 number tasks.List = 4
 number tasks.KeepAll = 5
+number tasks.PutJudged = 6
 
 -- the task of a number
 abbrev task_at : ℕ → Task
@@ -74,7 +75,8 @@ task_at n =
     else if n == 2 then tasks.Replace
     else if n == 3 then tasks.Remove
     else if n == 4 then tasks.List
-    else tasks.KeepAll
+    else if n == 5 then tasks.KeepAll
+    else tasks.PutJudged
 
 -- the number gives the task again
 task_again : (t : Task) → task_at (number t) ≡ t
@@ -84,6 +86,7 @@ task_again tasks.Replace = refl
 task_again tasks.Remove = refl
 task_again tasks.List = refl
 task_again tasks.KeepAll = refl
+task_again tasks.PutJudged = refl
 
 -- a number, three texts, names, calls, a call and names
 abbrev Shape : Type 0

@@ -29,7 +29,7 @@ pub fn next<P: Program>(
     // Told with whatever answer, all calls are in turn.
     ensures whatever { IfOk result (λ step. OnAsks step (λ request. (parts : Parts) → AllInTurn parts before → P.may_run program.now parts before → (answer : Answer) → AllInTurn parts (calls_after whole.now (told.now ++ record { request = request; answer = answer } ∷ []) before))) }
     // What it has come to says of the calls told what the program says.
-    ensures ends { IfOk result (λ step. OnEnds step (λ outcome. (parts : Parts) → P.may_run program.now parts before → P.says program.now outcome parts (calls_after whole.now told.now before))) }
+    ensures ends { IfOk result (λ step. OnEnds step (λ outcome. (parts : Parts) → P.may_run program.now parts before → P.says program.now outcome parts before (calls_after whole.now told.now before))) }
 {
     run::<P, Brand>(alloc, program, whole, told)
 }
@@ -45,7 +45,7 @@ fn run<P: Program, S: Script>(
     requires told { calls_after whole.now told.now S.before ≡ S.calls }
     ensures in_turn { IfOk result (λ step. OnAsks step (λ request. (parts : Parts) → AllInTurn parts S.before → P.may_run program.now parts S.before → InTurn parts S.calls (call_asked S.whole request))) }
     ensures whatever { IfOk result (λ step. OnAsks step (λ request. (parts : Parts) → AllInTurn parts S.before → P.may_run program.now parts S.before → (answer : Answer) → AllInTurn parts (answered (call_asked S.whole request) answer ++ S.calls))) }
-    ensures ends { IfOk result (λ step. OnEnds step (λ outcome. (parts : Parts) → P.may_run program.now parts S.before → P.says program.now outcome parts S.calls)) }
+    ensures ends { IfOk result (λ step. OnEnds step (λ outcome. (parts : Parts) → P.may_run program.now parts S.before → P.says program.now outcome parts S.before S.calls)) }
 {
     let mut folder = Replay::<S>::new(alloc, whole, told);
     let outcome = program.run(alloc, &mut folder);

@@ -10,6 +10,7 @@ mod programs;
 mod replay;
 mod request;
 mod script;
+mod seen;
 mod step;
 mod turn;
 mod wanted;

@@ -1,9 +1,12 @@
 //! What is to be done with a folder, as a value.
 ghost use Rattle.std.specs.Prelude.{◌≡◌};
-ghost use Rattle.folder_replay.specs.Orders.{MayTake, Says, matter_of, came, replaced, listed, kept};
+ghost use Rattle.folder_replay.specs.Orders.{EndSays, MayTake, matter_of, came, replaced, judged, listed, kept};
 
 use crate::program::Program;
-use folder_protocol::{Folder, Outcome, keep, keep_all, list_names, put, remove_joined, replace};
+use crate::seen::Seen;
+use folder_protocol::{
+    Folder, Outcome, keep, keep_all, list_names, put, put_judged, remove_joined, replace,
+};
 use std::alloc::Global;
 use std::io;
 
@@ -22,6 +25,8 @@ pub enum Task {
     List,
     /// Have the parts of these names on the disk, if they are there.
     KeepAll,
+    /// Put the part of this name and with these bytes, if the folder has no names but these, which were seen.
+    PutJudged,
 }
 
 /// What is to be done, and with what. What a task has no use for is empty.
@@ -42,6 +47,8 @@ pub enum End {
     Came(Outcome),
     /// One of the parts in whose place it was to be put is gone: nothing was put or removed.
     Overtaken,
+    /// The folder has a name that was not seen: nothing was put. Look at what came, and begin anew.
+    Unseen,
     Listed(Vec<String>),
     /// The parts of these names are on the disk, or gone.
     Kept,
@@ -64,6 +71,17 @@ fn replaced(given: io::Result<Option<Outcome>>) -> io::Result<End>
     match given {
         Ok(Some(outcome)) => Ok(End::Came(outcome)),
         Ok(None) => Ok(End::Overtaken),
+        Err(error) => Err(error),
+    }
+}
+
+/// The end of a put of a part that is to go with all that are there.
+fn judged(given: io::Result<Option<Outcome>>) -> io::Result<End>
+    ensures { result ≡ judged given }
+{
+    match given {
+        Ok(Some(outcome)) => Ok(End::Came(outcome)),
+        Ok(None) => Ok(End::Unseen),
         Err(error) => Err(error),
     }
 }
@@ -93,7 +111,7 @@ impl Program for Order {
 
     ghost may_run = { λ order parts before. MayTake order.task (matter_of order) parts before };
 
-    ghost says = { λ order result parts calls. Says order.task (matter_of order) result parts calls };
+    ghost says = { λ order result parts before calls. EndSays order.task (matter_of order) result parts before calls };
 
     fn run<F: Folder>(&self, alloc: Global, folder: &mut F) -> io::Result<End> {
         let (temporary, name) = (self.temporary.as_str(), self.name.as_str());
@@ -105,6 +123,10 @@ impl Program for Order {
             Task::Remove => came(remove_joined(alloc, folder, name, bytes, names)),
             Task::List => listed(list_names(alloc, folder)),
             Task::KeepAll => kept(keep_all(alloc, folder, names)),
+            Task::PutJudged => {
+                let judge = Seen { alloc, names };
+                judged(put_judged(alloc, folder, temporary, name, bytes, &judge))
+            }
         }
     }
 }

@@ -24,7 +24,7 @@ impl<'b> Program for Putting<'b> {
 
     ghost may_run = { λ p parts before. (p.name.now ≡ parts.name_of p.bytes.now) × IsNoPart parts p.temporary.now };
 
-    ghost says = { λ p result parts calls. IfOk result (λ how. how ≡ OnDisk → IsStored parts p.bytes.now calls) };
+    ghost says = { λ p result parts before calls. IfOk result (λ how. how ≡ OnDisk → IsStored parts p.bytes.now calls) };
 
     fn run<F: Folder>(
         &self,
@@ -46,7 +46,7 @@ impl<'b> Program for Keeping<'b> {
 
     ghost may_run = { λ p parts before. p.name.now ≡ parts.name_of p.bytes.now };
 
-    ghost says = { λ p result parts calls. IfOk result (λ how. how ≡ OnDisk → IsStored parts p.bytes.now calls) };
+    ghost says = { λ p result parts before calls. IfOk result (λ how. how ≡ OnDisk → IsStored parts p.bytes.now calls) };
 
     fn run<F: Folder>(
         &self,
@@ -70,7 +70,7 @@ impl<'b> Program for Replacing<'b> {
 
     ghost may_run = { λ p parts before. (p.name.now ≡ parts.name_of p.bytes.now) × IsNoPart parts p.temporary.now × AreJoined parts p.bytes.now (map string_bytes p.joined.now) before };
 
-    ghost says = { λ p result parts calls. Unit {0} };
+    ghost says = { λ p result parts before calls. Unit {0} };
 
     fn run<F: Folder>(
         &self,
@@ -100,7 +100,7 @@ impl<'b> Program for Removing<'b> {
 
     ghost may_run = { λ p parts before. (p.name.now ≡ parts.name_of p.bytes.now) × AreJoined parts p.bytes.now (map string_bytes p.joined.now) before };
 
-    ghost says = { λ p result parts calls. Unit {0} };
+    ghost says = { λ p result parts before calls. Unit {0} };
 
     fn run<F: Folder>(
         &self,
@@ -121,7 +121,7 @@ impl<'b, N: Naming> Program for Reading<'b, N> {
 
     ghost may_run = { λ p parts before. parts ≡ N.parts p.naming.now };
 
-    ghost says = { λ p result parts calls. IfOk result (λ answer. IfSome answer (λ found. HasFound parts calls (map (λ bytes. bytes.items) found.items))) };
+    ghost says = { λ p result parts before calls. IfOk result (λ answer. IfSome answer (λ found. HasFound parts calls (map (λ bytes. bytes.items) found.items))) };
 
     fn run<F: Folder>(&self, alloc: Global, folder: &mut F) -> io::Result<Option<Vec<Vec<u8>>>> {
         read_all(alloc, folder, self.naming)

@@ -1,5 +1,5 @@
 //! A turn of a process at a folder: an order, and the calls that were made to follow it.
-ghost use Rattle.std.specs.Prelude.{◌≡◌, ◌++◌, ◌∷◌, [], List, Some, None, IfOk, OnOk, OnErr, MatchOption, map};
+ghost use Rattle.std.specs.Prelude.{◌≡◌, ◌++◌, ◌∷◌, [], List, Some, None, IfOk, OnOk, OnErr, MatchOption, IfSome, map};
 ghost use Rattle.std.specs.String.{string_bytes};
 ghost use Rattle.folder_history.specs.Call.{Call};
 ghost use Rattle.folder_replay.specs.Calls.{answered};
@@ -58,6 +58,8 @@ impl Turn {
         ensures same { IsSame (state_of self.new) (state_of self.old) }
         // The call that is asked for is in turn after those told.
         ensures in_turn { IfOk result (λ answer. answer ≡ None → AsksInTurn before (state_of self.new)) }
+        // At the end none is asked for.
+        ensures over { IfOk result (λ answer. IfSome answer (λ end. (state_of self.new).asked ≡ None)) }
         // What it has come to says of the calls told what the order says.
         ensures ends { IfOk result (λ answer. MatchOption answer (Unit {0}) (λ end. EndsSaying before (state_of self.new) end)) }
     {
@@ -78,6 +80,9 @@ impl Turn {
         ensures task { self.new.order ≡ self.old.order }
         ensures calls { OnOk result (MatchOption (state_of self.old).asked ((state_of self.new).calls ≡ (state_of self.old).calls) (λ call. (state_of self.new).calls ≡ answered call answer ++ (state_of self.old).calls)) }
         ensures lost { OnErr result ((state_of self.new).calls ≡ (state_of self.old).calls) }
+        // Nothing is asked for then, and the names of a listing stay.
+        ensures asked { (state_of self.new).asked ≡ None }
+        ensures listed { self.new.listed ≡ self.old.listed }
     {
         match self.asked.take() {
             Some(request) => Ok(self.told.push(Told { request, answer })?),

@@ -19,5 +19,5 @@ returns-clause-whatever g c = asks_more c.into_step.result _ _ c.into_step.ensur
 
 pub returns-clause-ends : goal.returns-clause-ends
 returns-clause-ends g c = ends_more c.into_step.result _ _ c.into_step.ensures.ends (λ end is parts.
-    run_ends (λ calls. g.P.Program.may_run c.args.program.now parts calls) (λ outcome calls. g.P.Program.says c.args.program.now outcome parts calls)
+    run_ends (λ calls. g.P.Program.may_run c.args.program.now parts calls) (λ outcome before calls. g.P.Program.says c.args.program.now outcome parts before calls)
     end c.run-outcome.result g.S.Script.before _ _ g.S.Script.calls c.new-folder.ensures is (c.run-outcome.ensures.said parts))

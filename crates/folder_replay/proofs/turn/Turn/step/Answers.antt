@@ -3,7 +3,7 @@ use Rattle.std.proofs.Common.{ℕ, List}
 use Rattle.folder_history.specs.Call.{Call}
 use Rattle.folder_history.specs.Turn.{InTurn}
 use Rattle.folder_replay.specs.Calls.{call_asked}
-use Rattle.folder_replay.specs.Orders.{Says, matter_of}
+use Rattle.folder_replay.specs.Orders.{EndSays, matter_of}
 use Rattle.folder_replay.proofs.Runs.{holds_after}
 use Rattle.folder_replay.proofs.Steps.{asks_more, ends_more}
 use Rattle.folder_replay.proofs.turn.Turn.step.Goals as goal
@@ -15,5 +15,5 @@ returns-clause-in_turn g c = let turn = c.args.self.now in asks_more c.next.resu
 
 pub returns-clause-ends : goal.returns-clause-ends
 returns-clause-ends g c = let turn = c.args.self.now in ends_more c.next.result _ _ c.next.ensures.ends (λ end said parts may.
-    holds_after (λ (whole : List ℕ) (calls : List Call). Says turn.order.task (matter_of turn.order) end parts calls)
+    holds_after (λ (whole : List ℕ) (calls : List Call). EndSays turn.order.task (matter_of turn.order) end parts g.before calls)
     c.as_slice.result.now turn.order.bytes.items c.as_slice-2.result.now turn.told.items g.before c.as_slice.ensures.value c.as_slice-2.ensures.value (said parts may))

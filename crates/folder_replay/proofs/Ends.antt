@@ -1,0 +1,118 @@
+-- What the ends of tasks say, and that a name is among some.
+use Rattle.std.proofs.Common.{◌≡◌, ◌⊎◌, inl, inr, ⊎_elim, refl, Bool, true, false, ◌||◌, sym, ap, subst, ℕ, zero, suc, ◌<◌, slice_index_or, List, [], ◌∷◌, length, map, Option, Some, None, Result, Ok, Err, IfOk, OnOk, OnErr, arith}
+use Rattle.std.specs.String.{string_bytes}
+use Rattle.std.specs.Global.{Global, Vec}
+use Rattle.std.specs.declared.string.String.{String}
+use Rattle.std.specs.Prelude.{IfSome}
+use Rattle.std.specs.List.{list_any}
+use Rattle.folder_history.specs.Call.{Call}
+use Rattle.folder_history.specs.Disk.{Among}
+use Rattle.folder_history.specs.Parts.{Parts}
+use Rattle.folder_history.specs.Turn.{Gave, IsStored, listing_of}
+use Rattle.folder_protocol.specs.Causes.{Fails, HasCall, Lacks, LookCause}
+use Rattle.folder_protocol.specs.Goes.{AreRemoved}
+use Rattle.folder_protocol.specs.Keeping.{AreKept}
+use Rattle.folder_protocol.specs.declared.putting.Outcome.{Outcome}
+use Rattle.folder_protocol.specs.declared.putting.Outcome.TheVariants.{OnDisk}
+use Rattle.folder_protocol.specs.Taking.{HasListed}
+use Rattle.folder_replay.specs.Orders.{Matter, MayTake, Caused, EndSays, HasOnlySeen, came, replaced, judged, listed, kept}
+use Rattle.folder_replay.specs.declared.order.Task.{Task}
+use Rattle.folder_replay.specs.declared.order.Task.TheVariants as tasks
+use Rattle.folder_replay.specs.declared.order.End.{End}
+use Rattle.folder_replay.specs.declared.order.End.TheVariants as ends
+
+either : (a b : Bool) → (a || b) ≡ true → (a ≡ true) ⊎ (b ≡ true)
+either true b is = inl refl
+either false b is = inr is
+
+-- one that a test finds is among them
+pub found_among : {X : Type 0} (f : X → List ℕ) (t : X → Bool) (name : List ℕ) → ((x : X) → t x ≡ true → f x ≡ name) → (xs : List X) → list_any t xs ≡ true → Among name (map f xs)
+found_among f t name tells [] found = cc
+found_among f t name tells (x ∷ xs) found =
+    ⊎_elim (λ is. inl (sym (tells x is))) (λ later. inr (found_among f t name tells xs later)) (either (t x) (list_any t xs) found)
+
+-- and so is one at an index
+pub among_at : {X : Type 0} (f : X → List ℕ) (xs : List X) (k : ℕ) (v : X) → k < length xs → slice_index_or xs k v ≡ v → Among (f v) (map f xs)
+among_at f [] k v below is = absurd (omega (arith, below))
+among_at f (y ∷ xs) zero v below is = inl (ap f (sym is))
+among_at f (y ∷ xs) (suc k) v below is = inr (among_at f xs k v (omega (arith, below)) is)
+
+-- the same matter, whose texts are given
+pub same_matter : (m : Matter) (temporary name bytes : List ℕ) (names : List (List ℕ)) → temporary ≡ m.temporary → name ≡ m.name → bytes ≡ m.bytes → names ≡ m.names
+    → record { temporary = temporary; name = name; bytes = bytes; names = names } ≡ m
+same_matter m temporary name bytes names t n b ns = λ i. record { temporary = t i; name = n i; bytes = b i; names = ns i }
+
+-- what came of a part
+came_is : (a b : Outcome) → ends.Came a ≡ ends.Came b → a ≡ b
+came_is a b is = ap outcome is
+  where
+    outcome : End → Outcome
+    outcome (ends.Came how) = how
+    outcome other = OnDisk
+
+-- what was listed
+listed_is : (a b : Vec (String Global)) → ends.Listed a ≡ ends.Listed b → a ≡ b
+listed_is a b is = ap names is
+  where
+    names : End → Vec (String Global)
+    names (ends.Listed given) = given
+    names other = a
+
+module _ {E : Type 0} (m : Matter) (parts : Parts) (before calls : List Call) where
+  -- what is said of a task's end, by which task and which end it is
+  pub of_task : (task is : Task) (end given : Result End E) (n : Matter) → task ≡ is → end ≡ given → n ≡ m
+      → (MayTake is n parts before → EndSays is n given parts before calls) → MayTake task m parts before → EndSays task m end parts before calls
+  of_task task is end given n same_task same_end same says =
+      subst (λ (t : Task). MayTake t m parts before → EndSays t m end parts before calls) (sym same_task)
+      (subst (λ (e : Result End E). MayTake is m parts before → EndSays is m e parts before calls) (sym same_end)
+      (subst (λ (o : Matter). MayTake is o parts before → EndSays is o given parts before calls) same says))
+
+  came_caused : (given : Result Outcome E) → IfOk given (λ how. LookCause how m.name m.bytes before calls) → OnErr given (HasCall Fails before calls) → Caused m (came given) before calls
+  came_caused (Ok how) cause fails = cause
+  came_caused (Err error) cause fails = fails
+
+  came_says : (P : Type 0) (given : Result Outcome E) → IfOk given (λ how. how ≡ OnDisk → P) → IfOk (came given) (λ end. end ≡ ends.Came OnDisk → P)
+  came_says P (Ok how) said = λ is. said (came_is how OnDisk is)
+  came_says P (Err error) said = tt
+
+  -- of a part that is put
+  pub put_says : (given : Result Outcome E) → IfOk given (λ how. how ≡ OnDisk → IsStored parts m.bytes calls) → IfOk given (λ how. LookCause how m.name m.bytes before calls)
+      → OnErr given (HasCall Fails before calls) → EndSays tasks.Put m (came given) parts before calls
+  put_says given stored cause fails = (came_says (IsStored parts m.bytes calls) given stored, came_caused given cause fails)
+
+  -- of one that is there
+  pub keep_says : (given : Result Outcome E) → IfOk given (λ how. how ≡ OnDisk → IsStored parts m.bytes calls) → IfOk given (λ how. LookCause how m.name m.bytes before calls)
+      → OnErr given (HasCall Fails before calls) → EndSays tasks.Keep m (came given) parts before calls
+  keep_says given stored cause fails = (came_says (IsStored parts m.bytes calls) given stored, came_caused given cause fails)
+
+  -- of parts that are removed
+  pub removed_says : (given : Result Outcome E) → IfOk given (λ how. how ≡ OnDisk → AreRemoved m.names before calls) → IfOk given (λ how. LookCause how m.name m.bytes before calls)
+      → OnErr given (HasCall Fails before calls) → EndSays tasks.Remove m (came given) parts before calls
+  removed_says given gone cause fails = (came_says (AreRemoved m.names before calls) given gone, came_caused given cause fails)
+
+  -- of parts in whose place another one comes
+  pub replaced_says : (given : Result (Option Outcome) E) → IfOk given (λ answer. answer ≡ Some OnDisk → AreRemoved m.names before calls)
+      → IfOk given (λ answer. IfSome answer (λ how. LookCause how m.name m.bytes before calls)) → IfOk given (λ answer. answer ≡ None → HasCall (Lacks m.names) before calls)
+      → OnErr given (HasCall Fails before calls) → EndSays tasks.Replace m (replaced given) parts before calls
+  replaced_says (Ok (Some how)) gone cause overtaken fails = (λ is. gone (ap (λ (o : Outcome). Some o) (came_is how OnDisk is)), cause)
+  replaced_says (Ok None) gone cause overtaken fails = (λ is. cc, overtaken refl)
+  replaced_says (Err error) gone cause overtaken fails = (tt, fails)
+
+  -- of names that are listed
+  pub listed_says : (given : Result (Vec (String Global)) E) → IfOk given (λ names. listing_of calls ≡ Gave (map string_bytes names.items))
+      → OnErr given (HasCall Fails before calls) → EndSays tasks.List m (listed given) parts before calls
+  listed_says (Ok names) gave fails = (λ others is. subst (λ (v : Vec (String Global)). listing_of calls ≡ Gave (map string_bytes v.items)) (listed_is names others is) gave, tt)
+  listed_says (Err error) gave fails = (tt, fails)
+
+  -- of parts that are kept
+  pub kept_says : (given : Result (Unit {0}) E) → OnOk given (AreKept parts m.names before calls) → OnErr given (HasCall Fails before calls) → EndSays tasks.KeepAll m (kept given) parts before calls
+  kept_says (Ok done) are fails = (are, tt)
+  kept_says (Err error) are fails = (tt, fails)
+
+  -- of a part that is to go with all that are there
+  pub judged_says : (given : Result (Option Outcome) E) → IfOk given (λ answer. answer ≡ Some OnDisk → IsStored parts m.bytes calls)
+      → IfOk given (λ answer. IfSome answer (λ how. HasOnlySeen m.names before calls)) → IfOk given (λ answer. IfSome answer (λ how. LookCause how m.name m.bytes before calls))
+      → IfOk given (λ answer. answer ≡ None → HasListed before calls) → OnErr given (HasCall Fails before calls) → EndSays tasks.PutJudged m (judged given) parts before calls
+  judged_says (Ok (Some how)) stored seen cause listed fails = ((λ is. stored (ap (λ (o : Outcome). Some o) (came_is how OnDisk is)), λ other is. seen), cause)
+  judged_says (Ok None) stored seen cause listed fails = ((λ is. cc, λ other is. cc), listed refl)
+  judged_says (Err error) stored seen cause listed fails = (tt, fails)
