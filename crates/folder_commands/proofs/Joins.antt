@@ -75,35 +75,34 @@ among_last x (y ∷ xs) ys among = inr (among_last x xs ys among)
 from_reverse : (x : List ℕ) (xs : List (List ℕ)) → Among x (reverse xs) → Among x xs
 from_reverse x [] among = among
 from_reverse x (y ∷ xs) among =
-    ⊎_elim (λ a. inr (from_reverse x xs a)) (λ e. ⊎_elim (λ is. inl is) (λ no. absurd no) e)
+    ⊎_elim (λ a. inr (from_reverse x xs a)) (λ e. ⊎_elim (λ is. inl is) (λ none. absurd none) e)
     (among_either x (reverse xs) (y ∷ []) (subst (λ (l : List (List ℕ)). Among x l) (reverse-append (y ∷ []) xs) among))
+
+or_reverse : (x y : List ℕ) (xs : List (List ℕ)) → (Among x xs → Among x (reverse xs)) → (x ≡ y) ⊎ Among x xs → Among x (reverse xs ++ (y ∷ []))
+or_reverse x y xs onward (inl is) = among_last x (reverse xs) (y ∷ []) (inl is)
+or_reverse x y xs onward (inr among) = among_first x (reverse xs) (y ∷ []) (onward among)
 
 to_reverse : (x : List ℕ) (xs : List (List ℕ)) → Among x xs → Among x (reverse xs)
 to_reverse x [] among = among
-to_reverse x (y ∷ xs) among =
-    subst (λ (l : List (List ℕ)). Among x l) (sym (reverse-append (y ∷ []) xs)) (split among)
-  where
-    split : (x ≡ y) ⊎ Among x xs → Among x (reverse xs ++ (y ∷ []))
-    split (inl is) = among_last x (reverse xs) (y ∷ []) (inl is)
-    split (inr a) = among_first x (reverse xs) (y ∷ []) (to_reverse x xs a)
+to_reverse x (y ∷ xs) among = subst (λ (l : List (List ℕ)). Among x l) (sym (reverse-append (y ∷ []) xs)) (or_reverse x y xs (to_reverse x xs) among)
 
 not_both : (passed : List (List ℕ)) (name : List ℕ) → is_wanted passed name ≡ true → is_wanted passed name ≡ false → ⊥
-not_both passed name yes no = let both : true ≡ false = sym yes ∙ no in cc
+not_both passed name wanted unwanted = let both : true ≡ false = sym wanted ∙ unwanted in cc
 
 -- each name may be passed over, or its part was taken
 abbrev pub EachTaken : List (List ℕ) → List (List ℕ) → List Call → List (List ℕ) → Type 0
 EachTaken passed names calls taken = (name : List ℕ) → Among name names → (is_wanted passed name ≡ false) ⊎ IsTaken folder_parts calls taken name
 
 pub all_read : (passed names taken : List (List ℕ)) (answer : Option Replica) (calls : List Call) → IsJoinOf answer taken → EachTaken passed names calls taken → AreReadSince folder_parts [] taken calls → IsReadAs passed names answer calls
-all_read passed names taken None calls none each only = λ name among yes.
-    ⊎_elim (λ no. not_both passed name yes no) (λ (t : IsTaken folder_parts calls taken name). subst (λ (l : List (List ℕ)). Among t.0 l) none t.3) (each name among)
+all_read passed names taken None calls none each only = λ name among wanted.
+    ⊎_elim (λ unwanted. not_both passed name wanted unwanted) (λ (t : IsTaken folder_parts calls taken name). subst (λ (l : List (List ℕ)). Among t.0 l) none t.3) (each name among)
 all_read passed names taken (Some whole) calls (first, others, is, made) each only = record {
   first = first;
   others = others;
   made = made;
   read = λ file among. since_read folder_parts file calls
-      (⊎_elim (λ no. absurd no) (λ r. r) (only file (subst (λ (l : List (List ℕ)). Among file l) (sym is) (to_reverse file (first ∷ others) among))));
-  each = λ name among yes. ⊎_elim (λ no. absurd (not_both passed name yes no))
+      (⊎_elim (λ none. absurd none) (λ r. r) (only file (subst (λ (l : List (List ℕ)). Among file l) (sym is) (to_reverse file (first ∷ others) among))));
+  each = λ name among wanted. ⊎_elim (λ unwanted. absurd (not_both passed name wanted unwanted))
       (λ (t : IsTaken folder_parts calls taken name). (t.0, t.1, from_reverse t.0 (first ∷ others) (subst (λ (l : List (List ℕ)). Among t.0 l) is t.3))) (each name among);
 }
 
@@ -125,16 +124,7 @@ all_listed passed names taken calls listed none each =
 
 -- ---- what one call answers
 
--- a part that is taken has the name of its bytes
-pub first_named : (r : Result Replica PartFault) (name bytes : List ℕ) → OpensPart {X = Replica} (λ j. j) r (record { name = name; bytes = bytes }) → IfOk r (λ next. name ≡ part_name bytes)
-first_named (Ok next) name bytes opens = opens.0
-first_named (Err fault) name bytes opens = tt
-
-pub next_named : (r : Result Replica PartFault) (old : Replica) (name bytes : List ℕ) → JoinsPart {X = Replica} (λ j. j) r old (record { name = name; bytes = bytes }) → IfOk r (λ next. name ≡ part_name bytes)
-next_named (Ok next) old name bytes joins = joins.0
-next_named (Err fault) old name bytes joins = tt
-
--- and is joined
+-- a part that is taken is joined
 pub first_next : (r : Result Replica PartFault) (join : Option Replica) (name bytes : List ℕ) → join ≡ None → OpensPart {X = Replica} (λ j. j) r (record { name = name; bytes = bytes })
     → IfOk r (λ next. (taken : List (List ℕ)) → IsJoinOf join taken → IsJoinOf (Some next) (bytes ∷ taken))
 first_next (Ok next) join name bytes is opens = λ taken so. first_joined name bytes taken next opens (subst (λ (o : Option Replica). IsJoinOf o taken) is so)

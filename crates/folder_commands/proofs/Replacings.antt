@@ -11,6 +11,7 @@ use Rattle.folder_history.specs.Turn.{HasRead}
 use Rattle.folder_protocol.specs.Goes.{GoesInTurn, AreJoined, AreRemoved}
 use Rattle.folder_protocol.specs.declared.putting.Outcome.{Outcome}
 use Rattle.folder_protocol.specs.declared.putting.Outcome.TheVariants.{OnDisk}
+use Rattle.folder_protocol.proofs.Causing.{Follows}
 use Rattle.folder_protocol.proofs.Lines.{removed_between}
 use Rattle.replica_store.specs.Replica.{Replica}
 use Rattle.replica_reading.specs.Held.{held_in}
@@ -30,11 +31,11 @@ among_filter : (p : List ℕ → Bool) (xs : List (List ℕ)) (x : List ℕ) →
 among_filter p [] x among = absurd among
 among_filter p (y ∷ xs) x among =
     elim (p y) as (λ b. p y ≡ b → Among x (cond b (y ∷ filter p xs) (filter p xs)) → Among x (y ∷ xs) × (p x ≡ true)) [
-      | true ↦ λ yes here. elim here as (λ _. Among x (y ∷ xs) × (p x ≡ true)) [
-        | inl is ↦ (inl is, ap p is ∙ yes)
+      | true ↦ λ passes here. elim here as (λ _. Among x (y ∷ xs) × (p x ≡ true)) [
+        | inl is ↦ (inl is, ap p is ∙ passes)
         | inr rest ↦ let more = among_filter p xs x rest in (inr more.0, more.1)
       ]
-      | false ↦ λ no rest. let more = among_filter p xs x rest in (inr more.0, more.1)
+      | false ↦ λ fails rest. let more = among_filter p xs x rest in (inr more.0, more.1)
     ] refl among
 
 -- what is covered may go
@@ -82,7 +83,7 @@ has_read_later parts b (Read name (Some (Some found)) ∷ calls) h has = inr (ha
 has_read_later parts b (call ∷ calls) h has = has_read_later parts b calls h has
 
 -- what was read was read before further calls
-pub read_later : (passed names : List (List ℕ)) (whole : Replica) (mid after : List Call) → GoesInTurn folder_parts mid after → AreRead passed names whole mid → AreRead passed names whole after
+pub read_later : (passed names : List (List ℕ)) (whole : Replica) (mid after : List Call) → Follows mid after → AreRead passed names whole mid → AreRead passed names whole after
 read_later passed names whole mid after more parts = record {
   first = parts.first;
   others = parts.others;

@@ -14,7 +14,7 @@ abbrev pub IsJoinOf : Option Replica → List (List ℕ) → Type 0
 IsJoinOf None taken = taken ≡ []
 IsJoinOf (Some held) taken = (first : List ℕ) × (others : List (List ℕ)) × (taken ≡ reverse (first ∷ others)) × (merged_files first others ≡ Ok held)
 
--- The parts of these names that are wanted were read by these calls, and this is what they hold together.
+-- Files were read by these calls, each under the name of its bytes, and this is what they hold together; each of these names that is wanted is that of one of them.
 pub record AreRead (passed names : List (List ℕ)) (whole : Replica) (calls : List Call) : Type 0 where
   pub first : List ℕ
   pub others : List (List ℕ)
@@ -24,7 +24,7 @@ pub record AreRead (passed names : List (List ℕ)) (whole : Replica) (calls : L
   -- and under each name that is wanted there is one
   pub each : (name : List ℕ) → Among name names → is_wanted passed name ≡ true → (file : List ℕ) × (name ≡ part_name file) × Among file (first ∷ others)
 
--- so it is, or none of the names is wanted
+-- The parts of these names that are wanted were read by these calls, and this is what they hold together; or none of the names is wanted.
 abbrev pub IsReadAs : List (List ℕ) → List (List ℕ) → Option Replica → List Call → Type 0
 IsReadAs passed names None calls = (name : List ℕ) → Among name names → is_wanted passed name ≡ true → ⊥
 IsReadAs passed names (Some whole) calls = AreRead passed names whole calls

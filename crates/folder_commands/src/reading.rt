@@ -14,7 +14,9 @@ use std::alloc::Global;
 use table_model::Refusal;
 
 /// A refusal that is told of no part.
-pub(crate) fn refused(refusal: Refusal) -> Untaken<PartRefusal> {
+pub(crate) fn refused(refusal: Refusal) -> Untaken<PartRefusal>
+    ensures { result ≡ Untaken.Refused (record { part = 0; fault = PartFault.Refused refusal }) }
+{
     Untaken::Refused(PartRefusal {
         part: 0,
         fault: PartFault::Refused(refusal),
@@ -33,7 +35,9 @@ pub fn read_named<F: Folder>(
     ensures in_turn { GoesInTurn folder_parts (F.history folder.old) (F.history folder.new) }
     // Each part was read by these calls, and what is answered is their join.
     ensures read { IfOk result (λ answer. IsReadAs (map string_bytes passed.now) (map string_bytes names.now) (option_map (λ store. store.replica) answer) (F.history folder.new)) }
-    // The last listing is as it was, and each part was read since if it was listed before.
+    // The last listing is as it was.
+    ensures listing { OnOk result (listing_of (F.history folder.new) ≡ listing_of (F.history folder.old)) }
+    // If it gave these names and none is to be passed over, all that it gave was read.
     ensures since { (listed : List (List ℕ)) → listing_of (F.history folder.old) ≡ Gave listed → map string_bytes passed.now ≡ [] → listed ≡ map string_bytes names.now → OnOk result (HasReadAll folder_parts (F.history folder.new)) }
     // That they were not all read has its cause.
     ensures cause { IfErr result (λ fault. UntakenCause fault (F.history folder.old) (F.history folder.new)) }
