@@ -1,5 +1,5 @@
 -- Parts are joined one after another, as they are read.
-use Rattle.std.specs.Prelude.{◌≡◌, ◌⊎◌, ℕ, Bool, true, false, not, ◌&&◌, List, [], ◌∷◌, ◌++◌, reverse, Option, Some, None, Result, Ok, Err, OnOk, IfOk}
+use Rattle.std.specs.Prelude.{◌≡◌, ◌⊎◌, ℕ, Bool, true, false, not, ◌&&◌, List, [], ◌∷◌, ◌++◌, reverse, Option, Some, None, Result, Ok, Err, IfOk}
 use Rattle.std.proofs.Common.{refl, sym, ap, subst, ◌∙◌, inl, inr, ⊎_elim}
 use Rattle.std.proofs.lemmas.List.{reverse-append}
 use Rattle.std.specs.List.{list_any}
@@ -10,20 +10,19 @@ use Rattle.folder_history.specs.Call.{Call, Read, Began}
 use Rattle.folder_history.specs.Disk.{Among}
 use Rattle.folder_history.specs.Parts.{Parts}
 use Rattle.folder_history.specs.Turn.{HasRead, HasReadSince, HasReadAll, Gave, listing_of}
-use Rattle.folder_protocol.specs.Reads.{HasFound}
 use Rattle.folder_protocol.specs.Taking.{IsTaken, AreReadSince}
 use Rattle.folder_protocol.proofs.TakeLines.{found_taken}
 use Rattle.replica_store.specs.Replica.{Replica}
 use Rattle.replica_reading.specs.Held.{held_in}
-use Rattle.replica_commands.specs.Commands.{merged_with, merged_files}
+use Rattle.replica_commands.specs.Commands.{merged_with}
 use Rattle.replica_commands.proofs.FileLaws.{bound_parts}
 use Rattle.folder_home.specs.Covers.{folder_parts}
-use Rattle.folder_home.specs.Parts.{PartForm, OpensPart, JoinsPart}
-use Rattle.folder_home.specs.PartName.{part_name, is_part_name}
+use Rattle.folder_home.specs.Parts.{OpensPart, JoinsPart}
+use Rattle.folder_home.specs.PartName.{is_part_name}
 use Rattle.folder_home.specs.declared.fault.PartFault.{PartFault}
 use Rattle.folder_home.proofs.JoinedSoFar.{merged_more}
 use Rattle.folder_home.proofs.PartNames.{no_part}
-use Rattle.folder_commands.specs.Joined.{IsJoinOf, AreRead, IsReadAs}
+use Rattle.folder_commands.specs.Joined.{IsJoinOf, IsReadAs}
 use Rattle.folder_commands.specs.Wanted.{is_wanted}
 
 -- ---- one part after another

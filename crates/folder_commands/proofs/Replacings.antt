@@ -1,5 +1,5 @@
 -- What is made of parts covers each of them, so they may go.
-use Rattle.std.specs.Prelude.{◌≡◌, ◌≢◌, ◌⊎◌, ℕ, Bool, true, false, cond, not, ◌&&◌, List, [], ◌∷◌, ◌++◌, filter, Option, Some, None, Ok}
+use Rattle.std.specs.Prelude.{◌≡◌, ℕ, Bool, true, false, cond, not, List, [], ◌∷◌, ◌++◌, filter, Option, Some, Ok}
 use Rattle.std.proofs.Common.{refl, sym, ap, subst, ◌∙◌, inl, inr}
 use Rattle.std.proofs.lemmas.Bool.{and_parts}
 use Rattle.table_model.specs.Identifier.{same_text}
@@ -8,16 +8,15 @@ use Rattle.folder_history.specs.Call.{Call, Read}
 use Rattle.folder_history.specs.Disk.{Among}
 use Rattle.folder_history.specs.Parts.{Parts}
 use Rattle.folder_history.specs.Turn.{HasRead}
-use Rattle.folder_protocol.specs.Goes.{GoesInTurn, AreJoined, AreRemoved}
+use Rattle.folder_protocol.specs.Goes.{GoesInTurn, AreJoined}
 use Rattle.folder_protocol.specs.declared.putting.Outcome.{Outcome}
-use Rattle.folder_protocol.specs.declared.putting.Outcome.TheVariants.{OnDisk}
 use Rattle.folder_protocol.proofs.Causing.{Follows}
 use Rattle.folder_protocol.proofs.Lines.{removed_between}
 use Rattle.replica_store.specs.Replica.{Replica}
 use Rattle.replica_reading.specs.Held.{held_in}
 use Rattle.replica_commands.specs.Commands.{file_of, as_held}
 use Rattle.replica_commands.specs.Forgetting.{forgetting}
-use Rattle.folder_home.specs.Covers.{covers, folder_parts}
+use Rattle.folder_home.specs.Covers.{folder_parts}
 use Rattle.folder_home.specs.FolderLaws.{IsOneOf}
 use Rattle.folder_home.specs.PartName.{part_name}
 use Rattle.folder_home.proofs.PartsCover.{cover_laws_hold}

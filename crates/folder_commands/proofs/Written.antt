@@ -1,5 +1,5 @@
 -- What was written to memory is a file, whole.
-use Rattle.std.specs.Prelude.{◌≡◌, ℕ, Bool, true, false, List, [], ◌++◌, Option, Some, Ok}
+use Rattle.std.specs.Prelude.{◌≡◌, ℕ, Bool, true, false, List, [], ◌++◌, Some, Ok}
 use Rattle.std.proofs.Common.{sym, ap, ◌∙◌}
 use Rattle.replica_store.specs.Replica.{Replica}
 use Rattle.replica_reading.specs.Held.{held_in}

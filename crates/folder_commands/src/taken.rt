@@ -38,12 +38,7 @@ impl Model for Taken {
 }
 
 /// The join with one more part, the first one or a further one.
-fn joined(
-    alloc: Global,
-    join: Option<Join>,
-    name: &str,
-    bytes: &[u8],
-) -> Result<Join, PartFault>
+fn joined(alloc: Global, join: Option<Join>, name: &str, bytes: &[u8]) -> Result<Join, PartFault>
     ensures named { IfOk result (λ next. name.now ≡ part_name bytes.now) }
     ensures next { IfOk result (λ next. (taken : List (List ℕ)) → IsJoinOf join taken → IsJoinOf (Some next) (bytes.now ∷ taken)) }
 {

@@ -1,5 +1,5 @@
 -- What a forget leaves of the parts covers them.
-use Rattle.std.specs.Prelude.{◌≡◌, ℕ, List, Option, Some, map, string_bytes, option_map}
+use Rattle.std.specs.Prelude.{ℕ, Option, map, string_bytes, option_map}
 use Rattle.std.proofs.Common.{sym, ap, subst, ◌∙◌}
 use Rattle.folder_protocol.proofs.Lines.{joins}
 use Rattle.replica_store.specs.declared.store.Store.{Store}

@@ -1,5 +1,5 @@
 -- What was written to memory is what the writer holds.
-use Rattle.std.specs.Prelude.{ℕ, List, not, ◌==◌}
+use Rattle.std.specs.Prelude.{ℕ, not, ◌==◌}
 use Rattle.std.specs.Global.{Vec}
 use Rattle.std.proofs.Common.{ap, sym, ◌∙◌}
 use Rattle.folder_commands.proofs.Written.{written_part}

@@ -1,6 +1,6 @@
 -- The file of what was read covers each part that was.
-use Rattle.std.specs.Prelude.{◌≡◌, ℕ, List, [], Option, Some, map, string_bytes, option_map}
-use Rattle.std.proofs.Common.{sym, ap, subst, ◌∙◌}
+use Rattle.std.specs.Prelude.{[], Option, map, string_bytes, option_map}
+use Rattle.std.proofs.Common.{ap, ◌∙◌}
 use Rattle.folder_protocol.proofs.Lines.{joins}
 use Rattle.replica_store.specs.declared.store.Store.{Store}
 use Rattle.folder_home.specs.Covers.{folder_parts}

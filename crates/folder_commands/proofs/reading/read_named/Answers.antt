@@ -1,5 +1,5 @@
 -- What was taken is what was read, and the join is made of it.
-use Rattle.std.specs.Prelude.{◌≡◌, ℕ, List, map, string_bytes, option_map}
+use Rattle.std.specs.Prelude.{ℕ, List, map, string_bytes, option_map}
 use Rattle.std.proofs.Common.{refl, sym, ap, subst, ◌∙◌}
 use Rattle.folder_history.specs.Turn.{Gave}
 use Rattle.folder_protocol.specs.Taking.{AreReadSince, UntakenCause}

@@ -1,5 +1,5 @@
 -- What goes was read, and the new part covers it.
-use Rattle.std.specs.Prelude.{◌≡◌, ℕ, List, map, filter, string_bytes}
+use Rattle.std.specs.Prelude.{ℕ, List, map, filter, string_bytes}
 use Rattle.std.proofs.Common.{sym, ap, subst, ◌∙◌}
 use Rattle.folder_protocol.specs.Goes.{AreRemoved}
 use Rattle.folder_home.specs.Covers.{folder_parts}
