@@ -1,0 +1,5 @@
+pub mod Commands
+pub mod Going
+pub mod Joins
+pub mod Replacings
+pub mod Written

@@ -1,0 +1,34 @@
+-- The file of what was read covers each part that was.
+use Rattle.std.specs.Prelude.{[], Option, map, string_bytes, option_map}
+use Rattle.std.proofs.Common.{ap, ◌∙◌}
+use Rattle.folder_protocol.proofs.Lines.{joins}
+use Rattle.replica_store.specs.declared.store.Store.{Store}
+use Rattle.folder_home.specs.Covers.{folder_parts}
+use Rattle.folder_commands.proofs.Commands.{pack_covers, packs}
+use Rattle.folder_commands.proofs.packing.pack.Goals as goal
+
+pub returns-in-Ok-replace_read-clause-in_turn : goal.returns-in-Ok-replace_read-clause-in_turn
+returns-in-Ok-replace_read-clause-in_turn g c = λ temp.
+    let held = λ (o : Option Store). option_map (λ (s : Store). s.replica) o in
+    let mid = g.F.Folder.history c.read_named.new.folder in
+    let covered = pack_covers [] (map string_bytes c.args.names.now) (held c.in-Ok-Some.field-0) c.in-Ok-Some.store.replica c.as_slice.result.now mid (ap held c.in-Ok-Some.field-0-is) c.in-Ok-Some.ensures.read
+    (c.as_slice.ensures.value ∙ c.in-Ok.ensures.file, c.in-Ok.ensures.read) in
+    joins folder_parts _ _ _ c.read_named.ensures.in_turn (c.replace_read.ensures.in_turn temp covered)
+
+pub returns-in-Ok-replace_read-clause-packed : goal.returns-in-Ok-replace_read-clause-packed
+returns-in-Ok-replace_read-clause-packed g c =
+    let held = λ (o : Option Store). option_map (λ (s : Store). s.replica) o in
+    let before = g.F.Folder.history c.args.folder.now in
+    let mid = g.F.Folder.history c.read_named.new.folder in
+    let after = g.F.Folder.history c.replace_read.new.folder in
+    packs (map string_bytes c.args.names.now) (held c.in-Ok-Some.field-0) c.in-Ok-Some.store.replica c.as_slice.result.now (string_bytes c.in-Ok-replace_read.done.name) (map string_bytes c.in-Ok-replace_read.done.gone.items)
+    c.in-Ok-replace_read.done.outcome before mid after (ap held c.in-Ok-Some.field-0-is) c.in-Ok-Some.ensures.read (c.as_slice.ensures.value ∙ c.in-Ok.ensures.file, c.in-Ok.ensures.read)
+    c.read_named.ensures.in_turn c.in-Ok-replace_read.ensures.follows c.in-Ok-replace_read.ensures.replaces
+
+pub returns-clause-in_turn : goal.returns-clause-in_turn
+returns-clause-in_turn g c = λ temp.
+    let held = λ (o : Option Store). option_map (λ (s : Store). s.replica) o in
+    let mid = g.F.Folder.history c.read_named.new.folder in
+    let covered = pack_covers [] (map string_bytes c.args.names.now) (held c.in-Ok-Some.field-0) c.in-Ok-Some.store.replica c.as_slice.result.now mid (ap held c.in-Ok-Some.field-0-is) c.in-Ok-Some.ensures.read
+    (c.as_slice.ensures.value ∙ c.in-Ok.ensures.file, c.in-Ok.ensures.read) in
+    joins folder_parts _ _ _ c.read_named.ensures.in_turn (c.replace_read.ensures.in_turn temp covered)

@@ -1,0 +1,40 @@
+-- What goes was read, and the new part covers it.
+use Rattle.std.specs.Prelude.{ℕ, List, map, filter, string_bytes}
+use Rattle.std.proofs.Common.{sym, ap, subst, ◌∙◌}
+use Rattle.folder_protocol.specs.Goes.{AreRemoved}
+use Rattle.folder_home.specs.Covers.{folder_parts}
+use Rattle.folder_commands.specs.Wanted.{goes}
+use Rattle.folder_commands.proofs.Commands.{follows}
+use Rattle.folder_commands.proofs.Replacings.{are_joined}
+use Rattle.folder_commands.proofs.replacing.replace_read.Goals as goal
+
+pub returns-in-Ok-replace-clause-in_turn : goal.returns-in-Ok-replace-clause-in_turn
+returns-in-Ok-replace-clause-in_turn g c = λ temp covered.
+    let passed = map string_bytes c.args.passed.now in
+    let names = map string_bytes c.args.names.now in
+    let named = c.as_str.ensures.value ∙ c.in-Ok.ensures.name in
+    let gone = ap (λ l. map string_bytes l) c.as_slice.ensures.value ∙ c.in-Ok.ensures.gone ∙ ap (λ (n : List ℕ). filter (goes passed n) names) (sym c.as_str.ensures.value) in
+    c.replace.ensures.in_turn folder_parts named temp
+    (are_joined passed names c.args.bytes.now c.as_str.result.now (map string_bytes c.as_slice.result.now) (g.F.Folder.history c.args.folder.now) named gone covered)
+
+pub returns-in-Ok-replace-clause-replaces : goal.returns-in-Ok-replace-clause-replaces
+returns-in-Ok-replace-clause-replaces g c = record {
+  named = c.in-Ok.ensures.name;
+  going = c.in-Ok.ensures.gone;
+  removed = λ on. subst (λ (l : List (List ℕ)). AreRemoved l (g.F.Folder.history c.args.folder.now) (g.F.Folder.history c.replace.new.folder))
+      (ap (λ l. map string_bytes l) c.as_slice.ensures.value) (c.in-Ok-replace.ensures.gone on);
+}
+
+pub returns-in-Ok-replace-clause-follows : goal.returns-in-Ok-replace-clause-follows
+returns-in-Ok-replace-clause-follows g c =
+    let after = c.in-Ok-replace.ensures in
+    follows c.as_str.result.now c.args.bytes.now (map string_bytes c.as_slice.result.now) c.in-Ok-replace.outcome _ _ after.gone after.cause after.overtaken
+
+pub returns-in-Err-replace-clause-in_turn : goal.returns-in-Err-replace-clause-in_turn
+returns-in-Err-replace-clause-in_turn g c = λ temp covered.
+    let passed = map string_bytes c.args.passed.now in
+    let names = map string_bytes c.args.names.now in
+    let named = c.as_str.ensures.value ∙ c.in-Ok.ensures.name in
+    let gone = ap (λ l. map string_bytes l) c.as_slice.ensures.value ∙ c.in-Ok.ensures.gone ∙ ap (λ (n : List ℕ). filter (goes passed n) names) (sym c.as_str.ensures.value) in
+    c.replace.ensures.in_turn folder_parts named temp
+    (are_joined passed names c.args.bytes.now c.as_str.result.now (map string_bytes c.as_slice.result.now) (g.F.Folder.history c.args.folder.now) named gone covered)
