@@ -16,7 +16,6 @@ def a_flipped_bit_is_seen_by_each_command_and_named(room):
         room.put("d/" + part, data[:at] + bytes([data[at] ^ 4]) + data[at + 1 :])
         for words in READERS:
             room.refused(*words, line="refused Damaged", sentence=f"d/{part}: {DAMAGED}")
-        room.refused("import", "--no-header", "--batch", "9.9", "d", "-", given=b"1,1\n", line="refused Damaged", sentence=f"d/{part}: {DAMAGED}")
         assert not os.path.exists(room.path("m"))
     # An import reads the heads alone, and compares the smallest part with its name.
     room.ok("import", "--no-header", "d", "-", given=b"1,1\n")

@@ -7,21 +7,11 @@ ghost use Rattle.file_replacing.specs.Owning.{OwnsAll, GetsLock};
 ghost use Rattle.file_replacing.specs.Failed.{HasFailed};
 
 use crate::{Folder, Place};
+use patience::Patience;
 use std::error::Error;
+use std::fmt;
 use std::io::{self, ErrorKind};
 use std::rt::Clock;
-use std::time::{Duration, Instant};
-use std::{fmt, thread};
-
-/// How often a lock is tried at most; with a sleep after each try that makes ten seconds, and sleeps may take longer.
-const TRIES: u32 = 1005;
-
-/// How many milliseconds one sleep takes; the first ones take 1, 2 and so on. All who wait try equally often, so none is starved by
-/// those who come later.
-const LONGEST_SLEEP: u64 = 10;
-
-/// How many seconds a lock is waited for.
-const LONGEST_WAIT: u64 = 10;
 
 /// Why a lock was not had.
 #[derive(Clone, Copy, Debug, PartialEq, Eq, Drop)]
@@ -91,32 +81,20 @@ fn wait<R: Clock, F: Folder>(rt: &R, folder: &mut F, lock: &str) -> Result<(), H
     ensures own { OwnsAll lock.now (F.history folder.old) (F.history folder.new) }
     ensures gets { OnOk result (GetsLock lock.now (F.history folder.old) (F.history folder.new)) }
 {
-    let began = Instant::now(rt);
-    let mut pause = 1u64;
-    for _ in 0..TRIES {
+    let mut patience = Patience::new(rt);
+    loop {
         match try_hold(folder, lock) {
             Ok(true) => return Ok(()),
-            Ok(false) if has_waited(rt, &began) => return Err(HoldError::Busy),
-            Ok(false) => thread::sleep(rt, Duration::from_millis(pause)),
+            Ok(false) => {}
             Err(error) => match error.kind() {
-                ErrorKind::Interrupted => thread::sleep(rt, Duration::from_millis(pause)),
+                ErrorKind::Interrupted => {}
                 ErrorKind::AlreadyExists => return Err(HoldError::InTheWay),
                 _ => return Err(HoldError::Unmade),
             },
         }
-        pause = pause.saturating_add(1).min(LONGEST_SLEEP);
-    }
-    Err(HoldError::Busy)
-}
-
-/// Whether a lock was waited for as long as it is, by a clock that can be read.
-fn has_waited<R: Clock>(rt: &R, began: &io::Result<Instant>) -> bool {
-    match began {
-        Ok(began) => match began.elapsed(rt) {
-            Ok(waited) => waited.as_secs() >= LONGEST_WAIT,
-            Err(_) => false,
-        },
-        Err(_) => false,
+        if !patience.wait(rt) {
+            return Err(HoldError::Busy);
+        }
     }
 }
 

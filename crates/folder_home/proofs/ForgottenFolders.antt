@@ -82,7 +82,7 @@ forget_appends first others table ops sets whole part dropped true before now do
 same_agree : (xs ys : List Operation) → SameOperations xs ys → AreAgreeing ys → AreAgreeing xs
 same_agree xs ys same agree name a b g h = agree name a b ((same (Insert name a)).0 g) ((same (Insert name b)).0 h)
 
-alike : (table : Table) (ops others : List Operation) (one two : Replica) → Rests table ops one → Rests table others two → AreAgreeing ops → SameOperations ops others → AreAlike one two
+pub alike : (table : Table) (ops others : List Operation) (one two : Replica) → Rests table ops one → Rests table others two → AreAgreeing ops → SameOperations ops others → AreAlike one two
 alike table ops others one two ours theirs agree same =
     let state = state_of-same ops others agree same in
     let mine = rests-mean table ops one ours in
@@ -99,7 +99,7 @@ each-append [] more table (ops ∷ sets) rest a b = absurd a
 each-append (bytes ∷ files) more table [] rest a b = absurd a
 each-append (bytes ∷ files) more table (ops ∷ sets) rest a b = (a.0, each-append files more table sets rest a.1 b)
 
-same_self : (xs : List Operation) → SameOperations xs xs
+pub same_self : (xs : List Operation) → SameOperations xs xs
 same_self xs op = ((λ h. h), (λ h. h))
 
 pub forget_keeps : ForgetKeeps

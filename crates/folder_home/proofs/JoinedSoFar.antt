@@ -37,7 +37,7 @@ bytes_more [] part = refl
 bytes_more (first ∷ parts) part = ap (λ (rest : List (List ℕ)). first.bytes ∷ rest) (bytes_more parts part)
 
 -- one more file after those that were merged
-merged_more : (files : List (List ℕ)) (file : List ℕ) (start now : Replica) → merged_with start files ≡ Ok now → merged_with start (files ++ file ∷ []) ≡ merged_with now (file ∷ [])
+pub merged_more : (files : List (List ℕ)) (file : List ℕ) (start now : Replica) → merged_with start files ≡ Ok now → merged_with start (files ++ file ∷ []) ≡ merged_with now (file ∷ [])
 merged_more [] file start now e = ap (λ (r : Replica). merged_with r (file ∷ [])) (ok_one start now e)
 merged_more (first ∷ files) file start now e =
     let read = bound_parts (held_in first) (λ (other : Replica). merged start other >>= λ (done : Unit {0} × Replica). merged_with done.1 files) now e in

@@ -6,6 +6,7 @@ pub mod PackedSoFar
 pub mod PartOpens
 pub mod PartsBring
 pub mod PartsInTurn
+pub mod BroughtParts
 pub mod Removals
 pub mod Removed
 pub mod SummedSoFar
@@ -14,3 +15,10 @@ pub mod CanonicalJoins
 pub mod Fronts
 pub mod WholeFolders
 pub mod IdleLoads
+pub mod PartNames
+pub mod PartsCover
+pub mod StateCovers
+pub mod SkimmedLoads
+pub mod SkimmedJoins
+pub mod EnoughOfParts
+pub mod SkimmedSoFar

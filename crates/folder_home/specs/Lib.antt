@@ -1,3 +1,6 @@
+pub mod BroughtParts
+pub mod CoverLaws
+pub mod Covers
 pub mod FolderLaws
 pub mod Folders
 pub mod ForgetFolderLaws
@@ -7,3 +10,4 @@ pub mod PartName
 pub mod Parts
 pub mod PartReads
 pub mod PartsPut
+pub mod Skims

@@ -6,7 +6,7 @@ use Rattle.table_model.specs.declared.names.BatchName.{BatchName}
 use Rattle.table_model.specs.declared.names.RowName.{RowName}
 use Rattle.table_model.specs.declared.refusal.Refusal.{Refusal}
 use Rattle.replica_store.specs.Exchange.{OfferForm}
-use Rattle.replica_store.specs.Replica.{Replica, deleted_rows}
+use Rattle.replica_store.specs.Replica.{Replica, SaysChange, deleted_rows}
 pub use Rattle.replica_commands.specs.Brings.{empty_replica}
 use Rattle.replica_commands.specs.Brings.{deletes_brought, load_brought, offers_brought}
 use Rattle.replica_reading.specs.Held.{held_in}
@@ -44,3 +44,8 @@ WritesPart false before now part = now ≡ before
 abbrev pub PutsPart : {X Y : Type 0} → (X → Y) → (X → Bool) → Result X Refusal → Option (List ℕ) → Option (List ℕ) → Made Y → Type 0
 PutsPart view is_some (Ok x) before now made = (part : Replica) × (made ≡ Ok (view x, part)) × WritesPart (is_some x) before now part
 PutsPart view is_some (Err e) before now made = Refuses e before now (file_made made)
+
+-- The answer says exactly whether the command makes something else of what is held.
+abbrev pub TellsChange : {X Y : Type 0} → (X → Y) → (X → Bool) → Result X Refusal → Replica → Made Y → Type 0
+TellsChange view changed (Ok x) held made = (new : Replica) × (made ≡ Ok (view x, new)) × SaysChange (changed x) held new
+TellsChange view changed (Err e) held made = Unit {0}

@@ -8,8 +8,7 @@ ghost use Rattle.folder_home.specs.FolderLaws.{folder_operations};
 ghost use Rattle.folder_home.specs.ForgetFolderLaws.{FolderStandsFor, AppendsStanding};
 ghost use Rattle.folder_home.specs.PartsPut.{PutsPart};
 
-use crate::writing::write_part;
-use replica_commands::forget_dead;
+use replica_commands::{forget_dead, write_changed};
 use replica_store::{Forgotten, Store};
 use std::alloc::Global;
 use std::io::Write;
@@ -33,6 +32,6 @@ pub fn part_of_forget<W: Write>(
         IfOk result (λ done. not (done.batches == 0) ≡ true → AppendsStanding (W.contents writer.old.0) (W.contents writer.new.0) table (folder_operations ops sets)) }
 {
     let done = forget_dead(alloc, held)?;
-    write_part(alloc, held, done.batches != 0, writer)?;
+    write_changed(alloc, held, done.batches != 0, writer)?;
     Ok(done)
 }

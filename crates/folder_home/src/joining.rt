@@ -15,7 +15,7 @@ use table_model::{Origin, Refusal};
 
 /// The join of parts that came one after another. Contracts see the replica that has what all of them hold.
 #[derive(Drop)]
-pub(crate) struct Join {
+pub struct Join {
     joined: Joined,
 }
 
@@ -33,7 +33,7 @@ impl Model for Join {
 }
 
 /// What a part of this name holds. Refused are a name of other bytes (`Damaged`), and then what [`open`](column_file::open) refuses.
-fn open_part(alloc: Global, name: &str, bytes: &[u8]) -> Result<Store, PartFault>
+pub(crate) fn open_part(alloc: Global, name: &str, bytes: &[u8]) -> Result<Store, PartFault>
     ensures held { OpensPart (λ store. store.replica) result (record { name = name.now; bytes = bytes.now }) }
     ensures listed { IfErr result (λ fault. IsListed is_refusal_of_part fault) }
     ensures segments { IfOk result (λ store. AreCanonicalOf store.replica.schema store.replica.state.batches store.segments) }

@@ -1,6 +1,8 @@
 //! The laws of folders, each the contract of a function that does nothing.
+ghost use Rattle.folder_home.specs.CoverLaws.{CoverLaws};
 ghost use Rattle.folder_home.specs.FolderLaws.{FolderLaws};
 ghost use Rattle.folder_home.specs.ForgetFolderLaws.{ForgetFolderLaws};
+ghost use Rattle.folder_home.specs.BroughtParts.{PartsAreBrought};
 
 /// Folders whose parts hold the same operations have the same joined file, byte for byte, and the same replica, so the same answers: in
 /// whatever order, however often and in however many parts it lies. A part that comes adds what it holds. A pack keeps what a folder
@@ -12,6 +14,12 @@ pub fn folder_laws()
     ensures { FolderLaws }
 {}
 
+/// What a command brings to what all parts hold is the part that the laws of folders speak of; and so is what an import under a drawn name
+/// and a delete by names bring to an empty table. Such a delete always has something to put.
+pub fn parts_are_brought()
+    ensures { PartsAreBrought }
+{}
+
 /// What the parts of a folder represent are operations, some of whose batches may have been forgotten. A pack and a forget represent all
 /// that the parts represent that they were made of, and may take their place: next to these and after these are removed the folder's
 /// rows and answers are as they were. Folders that represent the same, and a folder and a file, have the same bytes once each has
@@ -19,4 +27,11 @@ pub fn folder_laws()
 /// represent all that ever came, at every moment.
 pub fn forget_folder_laws()
     ensures { ForgetFolderLaws }
+{}
+
+/// Which parts cover which, by their bytes: a part covers itself, and each of its table of which it has every deletion, and every batch but
+/// for those of which it has all rows deleted. Covering is an order. A pack and a forget cover each part that they were made of. What covers
+/// a part represents all that it represents, and has the same rows and answers as the two joined. So the part may go.
+pub fn cover_laws()
+    ensures { CoverLaws }
 {}

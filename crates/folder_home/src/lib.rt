@@ -1,32 +1,32 @@
 //! A replica as a folder of parts: their names, their join, and the part that each command puts.
 #![tactic(auto)]
 
+mod command_part;
 mod comparing;
-mod deletes;
 mod fault;
 mod forgetting;
 mod heads;
 mod joining;
 mod laws;
-mod loads;
-mod offers;
 mod opening;
 mod packing;
 mod part;
 mod part_naming;
 mod room;
-mod writing;
+mod skimmed_part;
+mod skimming;
 
+pub use command_part::{part_alone, part_of};
 pub use comparing::compare_part;
-pub use deletes::{part_of_deletes, part_of_rows};
 pub use fault::{PartFault, PartRefusal};
 pub use forgetting::part_of_forget;
 pub use heads::{HEAD_BYTES, Head, part_head};
-pub use laws::{folder_laws, forget_folder_laws};
-pub use loads::{part_of_load, part_of_named_load};
-pub use offers::part_of_offers;
+pub use joining::Join;
+pub use laws::{cover_laws, folder_laws, forget_folder_laws, parts_are_brought};
 pub use opening::{join_parts, open_parts, pack};
 pub use packing::{is_removed, packed_prefix};
 pub use part::Part;
 pub use part_naming::{is_part, is_part_name, part_name};
 pub use room::check_room;
+pub use skimmed_part::LoadNames;
+pub use skimming::{SkimmedParts, skim_parts};

@@ -7,7 +7,7 @@ ghost use Rattle.folder_home.specs.Parts.{PartForm, IsPart, AreParts, OpensPart,
 use crate::fault::{PartFault, PartRefusal};
 use crate::joining::Join;
 use crate::part::Part;
-use crate::writing::write_part;
+use replica_commands::write_changed;
 use replica_reading::OpenFile;
 use replica_store::Store;
 use std::alloc::Global;
@@ -116,7 +116,7 @@ pub fn pack<R: Read, W: Write>(
     ensures ends { EndsParts R.remaining is_refusal_of_pack result (first.old ∷ others.old) (first.new ∷ others.new) }
 {
     let store = join_parts(alloc, first, others)?;
-    match write_part(alloc, &store, true, writer) {
+    match write_changed(alloc, &store, true, writer) {
         Ok(()) => Ok(()),
         Err(refusal) => Err(PartFault::Refused(refusal).at(0)),
     }

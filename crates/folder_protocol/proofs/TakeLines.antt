@@ -1,11 +1,11 @@
 -- How what is taken leads on.
 use Rattle.std.proofs.Common.{◌≡◌, ◌⊎◌, inl, inr, ⊎_elim, ℕ, true, Result, Ok, Err, OnOk, IfOk, IfSome, Option, Some, None, List, ◌∷◌, ◌++◌, append_assoc, ap, sym, ◌∙◌, subst}
-use Rattle.folder_history.specs.Call.{Call, Unlocked}
+use Rattle.folder_history.specs.Call.{Call, Unlocked, Read}
 use Rattle.folder_history.specs.Disk.{Among}
 use Rattle.folder_history.specs.Parts.{Parts, IsNoPart}
-use Rattle.folder_history.specs.Turn.{Gave, Stage, Stored, Guarded, IsStored, stage_of, unguarded, listing_of}
+use Rattle.folder_history.specs.Turn.{Gave, Stage, Stored, Guarded, IsStored, stage_of, unguarded, listing_of, HasReadSince}
 use Rattle.folder_protocol.specs.Reads.{KeepsRead, HasFound}
-use Rattle.folder_protocol.specs.Taking.{IsTaken, HasListed, HasOnlyPassed, Gives, UntakenCause}
+use Rattle.folder_protocol.specs.Taking.{IsTaken, AreReadSince, HasListed, HasOnlyPassed, Gives, UntakenCause}
 use Rattle.folder_protocol.specs.declared.putting.Outcome.{Outcome}
 use Rattle.folder_protocol.specs.declared.putting.Outcome.TheVariants.{OnDisk}
 use Rattle.folder_protocol.specs.declared.taking.Untaken.{Untaken}
@@ -80,3 +80,16 @@ stored_unlocked (Ok answer) parts bytes mid after is stored = λ on.
     ⊎_elim (λ a. ap (λ (l : List Call). stage_of parts l) is ∙ ap (λ (s : Stage). unguarded s) a) (λ a. ap (λ (l : List Call). stage_of parts l) is ∙ ap (λ (s : Stage). unguarded s) a) e in
     inl (still (stored on))
 stored_unlocked (Err e) parts bytes mid after is stored = tt
+
+-- ---- nothing but what was read
+
+-- one more was read and taken
+pub read_now : (parts : Parts) (name bytes : List ℕ) (h after : List Call) (had have : List (List ℕ)) → after ≡ Read name (Some (Some bytes)) ∷ h → name ≡ parts.name_of bytes → have ≡ bytes ∷ had → AreReadSince parts had have after
+read_now parts name bytes h after had have is named taken b among =
+    ⊎_elim (λ e. inr (subst (λ (l : List Call). HasReadSince parts b l) (sym is) (inl (sym e, named ∙ ap parts.name_of (sym e))))) (λ a. inl a)
+    (subst (λ (l : List (List ℕ)). Among b l) taken among)
+
+-- and then some more
+pub read_on : (parts : Parts) (start had have : List (List ℕ)) (old new : List Call) → KeepsRead parts old had new have → AreReadSince parts start had old → AreReadSince parts had have new → AreReadSince parts start have new
+read_on parts start had have old new keeps before last b among =
+    ⊎_elim (λ a. ⊎_elim (λ s. inl s) (λ r. inr (keeps.read b r)) (before b a)) (λ r. inr r) (last b among)

@@ -1,5 +1,5 @@
 -- What is taken of the parts of a folder, and why not all are.
-use Rattle.std.specs.Prelude.{◌≡◌, ℕ, List, [], ◌∷◌, Some}
+use Rattle.std.specs.Prelude.{◌≡◌, ◌⊎◌, ℕ, List, [], ◌∷◌, Some}
 use Rattle.folder_history.specs.Call.{Call, Listed, Read}
 use Rattle.folder_history.specs.Disk.{Among}
 use Rattle.folder_history.specs.Parts.{Parts}
@@ -11,6 +11,10 @@ use Rattle.folder_protocol.specs.declared.taking.Untaken.TheVariants.{Gone, Fail
 -- The part of this name was read since the last listing began, and its bytes are among these.
 abbrev pub IsTaken : Parts → List Call → List (List ℕ) → List ℕ → Type 0
 IsTaken parts calls taken name = (bytes : List ℕ) × (name ≡ parts.name_of bytes) × HasReadSince parts bytes calls × Among bytes taken
+
+-- What is taken was taken before, or it was read since the last listing began.
+abbrev pub AreReadSince : Parts → List (List ℕ) → List (List ℕ) → List Call → Type 0
+AreReadSince parts before taken calls = (bytes : List ℕ) → Among bytes taken → Among bytes before ⊎ HasReadSince parts bytes calls
 
 -- Parts were not all taken: one was gone, or a call failed, or what takes them refused, for which it has its own reason.
 abbrev pub UntakenCause : {E : Type 0} → Untaken E → List Call → List Call → Type 0

@@ -6,7 +6,7 @@ ghost use Rattle.folder_history.specs.Parts.{Parts, IsNoPart};
 ghost use Rattle.folder_history.specs.Turn.{Gave, listing_of};
 ghost use Rattle.folder_protocol.specs.Goes.{GoesInTurn};
 ghost use Rattle.folder_protocol.specs.Reads.{KeepsRead, HasFound};
-ghost use Rattle.folder_protocol.specs.Taking.{IsTaken, UntakenCause};
+ghost use Rattle.folder_protocol.specs.Taking.{IsTaken, AreReadSince, UntakenCause};
 
 use crate::Folder;
 use crate::listing::list_names;
@@ -112,6 +112,8 @@ pub fn take_each<F: Folder, T: Taker>(
     ensures listing { OnOk result (listing_of (F.history folder.new) ≡ listing_of (F.history folder.old)) }
     // Each name may be passed over, or its part was read and taken.
     ensures taken { (parts : Parts) → parts.name_of ≡ T.name_of taker.old → OnOk result ((name : List ℕ) → Among name (map string_bytes names.now) → T.passes taker.old name ⊎ IsTaken parts (F.history folder.new) (T.taken taker.new) name) }
+    // Nothing was taken but what was read.
+    ensures only { (parts : Parts) → parts.name_of ≡ T.name_of taker.old → OnOk result (AreReadSince parts (T.taken taker.old) (T.taken taker.new) (F.history folder.new)) }
     ensures cause { IfErr result (λ fault. UntakenCause fault (F.history folder.old) (F.history folder.new)) }
 {
     let mut at = 0;
@@ -135,6 +137,7 @@ fn take_one<F: Folder, T: Taker>(
     ensures named { T.name_of taker.new ≡ T.name_of taker.old }
     ensures passing { (other : List ℕ) → T.passes taker.new other → T.passes taker.old other }
     ensures keeps { (parts : Parts) → OnOk result (KeepsRead parts (F.history folder.old) (T.taken taker.old) (F.history folder.new) (T.taken taker.new)) }
+    ensures only { (parts : Parts) → parts.name_of ≡ T.name_of taker.old → OnOk result (AreReadSince parts (T.taken taker.old) (T.taken taker.new) (F.history folder.new)) }
     ensures one { (parts : Parts) → parts.name_of ≡ T.name_of taker.old → OnOk result (T.passes taker.old name.now ⊎ IsTaken parts (F.history folder.new) (T.taken taker.new) name.now) }
     ensures cause { IfErr result (λ fault. UntakenCause fault (F.history folder.old) (F.history folder.new)) }
 {

@@ -2,25 +2,24 @@
 
 use crate::change::{Done, Reply};
 use crate::failure::Failure;
-use crate::folders::{Opened, open_folder, read_heads};
+use crate::folders::{Opened, Parts, open_folder, read_heads};
 use crate::home::is_there;
 use crate::host::Host;
 use crate::inputs::of_other_table;
 use crate::judged_puts::put_judged;
 use crate::loading::{load_of, random_words};
+use crate::named_imports::import_named;
 use crate::offers::{OfferTables, read_offers};
 use crate::progress::Progress;
 use crate::putting::{keep_all, make_folder, put_part, unmade};
 use command_line::{CsvForm, Source};
 use file_home::{HeldRows, Left};
-use folder_home::{
-    check_room, part_of_deletes, part_of_load, part_of_named_load, part_of_offers, part_of_rows,
-};
+use folder_home::{check_room, part_alone, part_of};
 use refusal_sentences::{CommandRefusal, is_of_a_text};
-use replica_commands::{Answer, DeletedRows};
+use replica_commands::{Answer, Command};
 use replica_reading::OpenFile;
 use replica_store::Store;
-use table_model::{BatchName, ColType, Counted, Refusal, RowName};
+use table_model::{BatchName, ColType, Counted, Refusal, RowName, Schema};
 
 /// Makes a folder that has the empty table as its one part.
 pub fn create<R: Host>(
@@ -71,42 +70,47 @@ fn import_drawn<R: Host>(
         return Err(Failure::of_change(rt, CommandRefusal::from(refusal), folder));
     }
     let words = random_words(rt)?;
+    let command = Command::Import {
+        load,
+        given: None,
+        words: words.as_slice(),
+    };
+    put_alone(rt, folder, &heads.schema, command)
+}
+
+/// Puts the part of a command for which only the heads of the parts are read, if there is something to put.
+fn put_alone<R: Host>(
+    rt: &R,
+    folder: &str,
+    schema: &Schema,
+    command: Command<'_>,
+) -> Result<Done, Failure> {
     let mut writer = Counted::new(Vec::new(rt.alloc()));
-    match part_of_load(rt.alloc(), load, &words, &mut writer) {
-        Ok(done) if done.new == 0 => Ok(Done::added(Answer::Imported(done), Left::Kept)),
-        Ok(done) => {
+    match part_alone(rt.alloc(), schema, command, &mut writer) {
+        Ok(answer) if !answer.is_changed() => Ok(Done::added(answer, Left::Kept)),
+        Ok(answer) => {
             let replaced = put_part(rt, folder, writer.into_inner().as_slice())?;
-            Ok(Done::added(Answer::Imported(done), Left::Changed(replaced)))
+            Ok(Done::added(answer, Left::Changed(replaced)))
         }
         Err(refusal) => Err(unmade(rt, folder, refusal)),
     }
 }
 
-/// The same under names that begin with one that is given. Of two such loads at once under one name with other rows the second is
-/// refused.
-fn import_named<R: Host>(
+/// Puts the part of a command once it goes with all that is there, or has the parts that were read on the disk if there is nothing to
+/// put.
+pub fn finish_judged<R: Host>(
     rt: &R,
-    progress: &Progress<'_, R>,
     folder: &str,
-    csvs: &[Source<'_>],
-    first: BatchName,
-    form: CsvForm<'_>,
+    parts: &Parts,
+    answer: Answer,
+    bytes: &[u8],
 ) -> Result<Done, Failure> {
-    let opened: Opened<Store> = open_folder(rt, progress, folder)?;
-    let load = load_of(rt, progress, csvs, opened.held.schema(), form)?;
-    let mut writer = Counted::new(Vec::new(rt.alloc()));
-    match part_of_named_load(rt.alloc(), &opened.held, load, first, &mut writer) {
-        Ok(done) if done.new == 0 => {
-            let left = keep_all(rt, folder, &opened.parts);
-            Ok(Done::added(Answer::Imported(done), left))
-        }
-        Ok(done) => {
-            let bytes = writer.into_inner();
-            let replaced = put_judged(rt, folder, &opened.parts, bytes.as_slice())?;
-            Ok(Done::added(Answer::Imported(done), Left::Changed(replaced)))
-        }
-        Err(refusal) => Err(unmade(rt, folder, refusal)),
-    }
+    let left = if answer.is_changed() {
+        Left::Changed(put_judged(rt, folder, parts, bytes)?)
+    } else {
+        keep_all(rt, folder, parts)
+    };
+    Ok(Done::added(answer, left))
 }
 
 /// Puts the deletions of the rows for which a condition is true into a folder as one part.
@@ -118,14 +122,15 @@ pub fn delete<R: Host>(
 ) -> Result<Done, Failure> {
     let opened: Opened<OpenFile> = open_folder(rt, progress, folder)?;
     let mut writer = Counted::new(Vec::new(rt.alloc()));
-    match part_of_deletes(rt.alloc(), opened.held.store(), condition, &mut writer) {
-        Ok(done) if done.rows == 0 => {
+    let command = Command::Delete { condition };
+    match part_of(rt.alloc(), opened.held.store(), command, &mut writer) {
+        Ok(answer) if !answer.is_changed() => {
             let left = keep_all(rt, folder, &opened.parts);
-            Ok(Done::added(Answer::Deleted(done), left))
+            Ok(Done::added(answer, left))
         }
-        Ok(done) => {
+        Ok(answer) => {
             let replaced = put_part(rt, folder, writer.into_inner().as_slice())?;
-            Ok(Done::added(Answer::Deleted(done), Left::Changed(replaced)))
+            Ok(Done::added(answer, Left::Changed(replaced)))
         }
         Err(refusal) if is_of_a_text(refusal) => {
             let schema = Some(opened.held.schema());
@@ -143,15 +148,12 @@ pub fn delete_rows<R: Host>(
     last: u16,
 ) -> Result<Done, Failure> {
     let heads = read_heads(rt, folder)?;
-    let mut writer = Counted::new(Vec::new(rt.alloc()));
-    match part_of_rows(rt.alloc(), &heads.schema, first, last, &mut writer) {
-        Ok(()) => {
-            let replaced = put_part(rt, folder, writer.into_inner().as_slice())?;
-            let answer = Answer::DeletedRows(DeletedRows { is_changed: true });
-            Ok(Done::added(answer, Left::Changed(replaced)))
-        }
-        Err(refusal) => Err(unmade(rt, folder, refusal)),
-    }
+    put_alone(
+        rt,
+        folder,
+        &heads.schema,
+        Command::DeleteRows { first, last },
+    )
 }
 
 /// Puts the deletion of rows by their names into a folder as one part, if a part of the folder holds their batch.
@@ -165,7 +167,8 @@ pub fn delete_held_rows<R: Host>(
     let opened: Opened<OpenFile> = open_folder(rt, progress, folder)?;
     let mut writer = Counted::new(Vec::new(rt.alloc()));
     let schema = opened.held.schema();
-    if let Err(refusal) = part_of_rows(rt.alloc(), schema, first, last, &mut writer) {
+    let command = Command::DeleteRows { first, last };
+    if let Err(refusal) = part_alone(rt.alloc(), schema, command, &mut writer) {
         return Err(unmade(rt, folder, refusal));
     }
     let is_held = opened
@@ -198,15 +201,11 @@ pub fn apply<R: Host>(
     let offers = read_offers(rt, progress, sources)?;
     let tables = OfferTables::of(rt.alloc(), offers.as_slice())?;
     let mut writer = Counted::new(Vec::new(rt.alloc()));
-    match part_of_offers(rt.alloc(), &opened.held, offers, &mut writer) {
-        Ok(done) if !done.is_changed => {
-            let left = keep_all(rt, folder, &opened.parts);
-            Ok(Done::added(Answer::Applied(done), left))
-        }
-        Ok(done) => {
+    let command = Command::Apply { offers };
+    match part_of(rt.alloc(), &opened.held, command, &mut writer) {
+        Ok(answer) => {
             let bytes = writer.into_inner();
-            let replaced = put_judged(rt, folder, &opened.parts, bytes.as_slice())?;
-            Ok(Done::added(Answer::Applied(done), Left::Changed(replaced)))
+            finish_judged(rt, folder, &opened.parts, answer, bytes.as_slice())
         }
         Err(Refusal::SchemaDiffers) => {
             let schema = opened.held.schema();

@@ -11,7 +11,7 @@ use crate::replacing::{Round, replace};
 use file_home::Left;
 use file_replacing::Replaced;
 use folder_home::part_of_forget;
-use part_folder::Patience;
+use patience::Patience;
 use replica_store::{Forgotten, Store};
 use std::alloc::Global;
 use table_model::{Counted, Refusal};

@@ -9,7 +9,8 @@ use crate::putting::{kept, new_temporary, opened, put_part, unkept};
 use file_replacing::Replaced;
 use folder_home::part_name;
 use folder_protocol::{self, Untaken, take_all};
-use part_folder::{FolderFault, Patience, SystemFolder};
+use part_folder::{FolderFault, SystemFolder};
+use patience::Patience;
 use std::io::ErrorKind;
 
 /// Puts a part into a folder of which these parts were looked at, and with which it goes. It is written first; then, under the folder's

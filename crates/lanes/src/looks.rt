@@ -2,7 +2,7 @@
 
 use crate::failure::Failure;
 use crate::part_failures::Unread;
-use part_folder::Patience;
+use patience::Patience;
 use std::rt::Clock;
 
 /// Looks at the parts of folders, one after another, until ten seconds are over.

@@ -24,6 +24,7 @@ mod judged_puts;
 mod loading;
 mod looks;
 mod merging;
+mod named_imports;
 mod offers;
 mod output;
 mod packing;

@@ -1,7 +1,7 @@
 //! The lock of a folder, which is on the folder itself: shared while its names are listed, exclusive while files are removed.
 
 use crate::fault::FolderFault;
-use crate::patience::Patience;
+use patience::Patience;
 use std::fs::{self, File, Files, TryLockError};
 use std::rt::Clock;
 
@@ -61,7 +61,7 @@ impl FolderLock {
 /// Waits for the lock of a folder that is open.
 fn wait<R: Clock>(rt: &R, folder: &File, kind: Kind) -> Result<(), FolderFault> {
     let mut patience = Patience::new(rt);
-    for _ in 0..u64::MAX {
+    loop {
         let tried = match kind {
             Kind::Shared => folder.try_lock_shared(),
             Kind::Exclusive => folder.try_lock(),
@@ -72,8 +72,7 @@ fn wait<R: Clock>(rt: &R, folder: &File, kind: Kind) -> Result<(), FolderFault> 
             Err(TryLockError::WouldBlock) => {}
         }
         if !patience.wait(rt) {
-            break;
+            return Err(FolderFault::Busy);
         }
     }
-    Err(FolderFault::Busy)
 }

@@ -72,7 +72,7 @@ fn take_all(alloc: Global, brought: &mut Brought<'_>, mut offers: Vec<Offer>) ->
 ///
 /// Refused are, offer by offer, `SchemaDiffers`, `Conflict` with the least name that has two lists of rows, and `Full`, as when the
 /// offers are applied to the store; `Memory` may come in the place of any of them.
-pub fn bring_offers(
+fn bring_offers(
     alloc: Global,
     held: &Store,
     offers: Vec<Offer>,
@@ -97,7 +97,7 @@ pub fn bring_offers(
 ///
 /// Refused are, in this order, `BadName` and `NumbersSpent` of the names; `SchemaDiffers`; `Conflict` with the least name that is held
 /// with other rows; `Full`; `Memory` may come in the place of any of them.
-pub fn bring_load(
+fn bring_load(
     alloc: Global,
     held: &Store,
     load: Load,
@@ -130,11 +130,7 @@ pub fn bring_load(
 ///
 /// Refused are, in this order, `Syntax`, `NumberTooLarge` and `TooDeep`, the one whose token comes first; `NoSuchColumn`; `Memory` may
 /// come in the place of any of them.
-pub fn bring_deletes(
-    alloc: Global,
-    held: &Store,
-    condition: &str,
-) -> Result<(Deleted, Store), Refusal>
+fn bring_deletes(alloc: Global, held: &Store, condition: &str) -> Result<(Deleted, Store), Refusal>
     ensures brings { BringsTo (λ done. done.rows) (λ done. not (done.rows == 0)) result held.now (deletes_brought condition.now held.now.replica) (deleting condition.now held.now.replica) }
     ensures refused { IfErr result (λ e. IsTrue (is_refusal_of_condition e)) }
 {

@@ -1,4 +1,4 @@
-//! Writing a file anew when a command changed what it holds.
+//! Writing the file of a store that a command changed, or that it brings.
 ghost use Rattle.std.specs.Prelude.{◌≡◌, IfErr, OnOk};
 ghost use Rattle.table_model.specs.Faults.{CountsWrites};
 ghost use Rattle.replica_commands.specs.Commands.{Puts};
@@ -9,8 +9,8 @@ use std::alloc::Global;
 use std::io::Write;
 use table_model::{Counted, Refusal};
 
-/// Writes a store's canonical file if something changed, and else nothing. Refused are `Memory`, before anything is written, and
-/// `WriteFault`, after a front.
+/// Writes the canonical file of a store that a command changed, or that it brings, if there is a change, and else nothing. Refused are
+/// `Memory`, before anything is written, and `WriteFault`, after a front.
 pub fn write_changed<W: Write>(
     alloc: Global,
     store: &Store,

@@ -16,7 +16,7 @@ mod naming;
 mod new_file;
 
 pub use applying::{Applied, apply, apply_all, apply_offers};
-pub use bringing::{bring, bring_deletes, bring_load, bring_offers};
+pub use bringing::bring;
 pub use command::{Answer, Command};
 pub use csv_reading::read_csv;
 pub use deleting::{Deleted, DeletedRows, delete, delete_rows};

@@ -11,12 +11,12 @@ returns-in_err-store-clause-packed g c =
     rw (p.1, p.2) (λ form forms first others. inl (refl, c.in_err-store.ensures.opened form forms first others))
 
 pub returns-in-Ok-clause-packed : goal.returns-in-Ok-clause-packed
-returns-in-Ok-clause-packed g c = λ form forms first others. (c.in_ok-store.store.replica, c.in_ok-store.ensures.opened form forms first others, c.in-Ok.ensures.0, c.in-Ok.ensures.1)
+returns-in-Ok-clause-packed g c = λ form forms first others. (c.in_ok-store.store.replica, c.in_ok-store.ensures.opened form forms first others, c.in-Ok.ensures.put.0, c.in-Ok.ensures.put.1)
 
 pub returns-clause-packed : goal.returns-clause-packed
 returns-clause-packed g c = λ form forms first others.
-    packs_unwritten c.in_ok-store.store.replica c.in-Err.refusal c.at.result (g.W.Write.contents c.args.writer.now.0) (g.W.Write.contents c.write_part.new.writer.0) form forms c.at.ensures
-    (c.in_ok-store.ensures.opened form forms first others) c.in-Err.ensures
+    packs_unwritten c.in_ok-store.store.replica c.in-Err.refusal c.at.result (g.W.Write.contents c.args.writer.now.0) (g.W.Write.contents c.write_changed.new.writer.0) form forms c.at.ensures
+    (c.in_ok-store.ensures.opened form forms first others) c.in-Err.ensures.put
 
 pub returns-in_err-store-clause-ends : goal.returns-in_err-store-clause-ends
 returns-in_err-store-clause-ends g c =
@@ -28,4 +28,4 @@ returns-in-Ok-clause-ends g c = c.in_ok-store.ensures.ends
 
 pub returns-clause-ends : goal.returns-clause-ends
 returns-clause-ends g c =
-    pack_unwritten g.R.Read.remaining _ _ c.at.result c.in-Err.refusal (g.W.Write.contents c.args.writer.now.0) (g.W.Write.contents c.write_part.new.writer.0) c.in_ok-store.store.replica c.at.ensures c.in-Err.ensures c.in_ok-store.ensures.ends
+    pack_unwritten g.R.Read.remaining _ _ c.at.result c.in-Err.refusal (g.W.Write.contents c.args.writer.now.0) (g.W.Write.contents c.write_changed.new.writer.0) c.in_ok-store.store.replica c.at.ensures c.in-Err.ensures.put c.in_ok-store.ensures.ends

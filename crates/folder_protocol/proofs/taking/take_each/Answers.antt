@@ -2,7 +2,7 @@ use Rattle.std.proofs.Common.{sym, ◌∙◌, ⊎_elim, arith}
 use Rattle.std.specs.String.{string_bytes}
 use Rattle.folder_protocol.proofs.Lines.{joins}
 use Rattle.folder_protocol.proofs.ReadLines.{among_more, among_all}
-use Rattle.folder_protocol.proofs.TakeLines.{some_parts, taken_on, taken_now, untaken_later}
+use Rattle.folder_protocol.proofs.TakeLines.{some_parts, taken_on, taken_now, read_on, untaken_later}
 use Rattle.folder_protocol.proofs.taking.take_each.Goals as goal
 
 pub loop-at-preserved : goal.loop-at-preserved
@@ -18,6 +18,7 @@ loop-at-preserved g c =
           (λ before. taken_on parts (T.passes c.args.taker.now) name _ _ _ _ (c.in-Ok.ensures.keeps parts) (c.loop-at.invariant.each parts is name before))
           (λ last. taken_now parts (T.passes c.args.taker.now) (T.passes c.loop-at.taker) name _ (g.F.Folder.history c.take_one.new.folder) (T.taken c.take_one.new.taker) (last ∙ sym c.as_str.ensures.value) c.loop-at.invariant.passing (c.in-Ok.ensures.one parts (is ∙ sym c.loop-at.invariant.named)))
           (among_more string_bytes c.args.names.now c.loop-at.at c.index-names-at.result name c.loop-at-test.true (sym c.index-names-at.is) among);
+      only = λ parts is. read_on parts (T.taken c.args.taker.now) _ _ _ _ (c.in-Ok.ensures.keeps parts) (c.loop-at.invariant.only parts is) (c.in-Ok.ensures.only parts (is ∙ sym c.loop-at.invariant.named));
     }
 
 pub returns-in-Err-clause-in_turn : goal.returns-in-Err-clause-in_turn

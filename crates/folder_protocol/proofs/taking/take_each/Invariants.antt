@@ -4,7 +4,7 @@ use Rattle.folder_history.specs.Disk.{Among}
 use Rattle.folder_history.specs.Parts.{Parts}
 use Rattle.folder_history.specs.Turn.{listing_of}
 use Rattle.folder_protocol.specs.Goes.{GoesInTurn}
-use Rattle.folder_protocol.specs.Taking.{IsTaken}
+use Rattle.folder_protocol.specs.Taking.{IsTaken, AreReadSince}
 use Rattle.folder_protocol.proofs.taking.take_each.Given as goal
 
 -- what was taken so far
@@ -19,6 +19,7 @@ invariant-loop-at g l =
       passing : (name : List ℕ) → T.passes l.taker name → T.passes l.fn.taker name;
       listing : listing_of (history l.folder) ≡ listing_of (history l.fn.folder);
       each : (parts : Parts) → parts.name_of ≡ T.name_of l.fn.taker → (name : List ℕ) → Among name (take l.at (map string_bytes l.names)) → T.passes l.fn.taker name ⊎ IsTaken parts (history l.folder) (T.taken l.taker) name;
+      only : (parts : Parts) → parts.name_of ≡ T.name_of l.fn.taker → AreReadSince parts (T.taken l.fn.taker) (T.taken l.taker) (history l.folder);
     }
 
 abbrev pub decreases-loop-at : goal.decreases-loop-at

@@ -1,0 +1,5 @@
+pub mod Passed
+pub mod PassedAsRead
+pub mod NamesInOrder
+pub mod SkimmedAsRead
+pub mod RangesRead
