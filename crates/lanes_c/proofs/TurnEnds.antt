@@ -22,6 +22,10 @@ use Rattle.lanes_c.specs.FolderTurns.{EndsAs, EndsIn, FaultCause, GoesOn, HasEnd
 use Rattle.lanes_c.specs.declared.fault.Fault.{Fault}
 use Rattle.lanes_c.specs.declared.folder_turns.FolderCall.{FolderCall}
 
+-- a number that is neither 1 nor 2
+neither : (P : Type 0) (k n : ℕ) → n ≡ k → (k ≡ 1 → ⊥) → (k ≡ 2 → ⊥) → (n ≡ 1) ⊎ (n ≡ 2) → P
+neither P k n number no_one no_two = ⊎_elim (λ one. absurd (no_one (omega (arith, number, one)))) (λ two. absurd (no_two (omega (arith, number, two))))
+
 module _ {E : Type 0} (P : Type 0) where
   -- 1 is that the part is on the disk
   on_disk : (end : Result End E) (n : ℕ) → EndsAs end n → IfOk end (λ e. e ≡ ends.Came OnDisk → P) → n ≡ 1 → P
@@ -35,33 +39,30 @@ module _ {E : Type 0} (P : Type 0) where
   on_disk (Ok ends.Kept) n number said one = absurd (omega (arith, number, one))
   on_disk (Err error) n number said one = absurd number
 
-  neither : (k n : ℕ) → n ≡ k → (k ≡ 1 → ⊥) → (k ≡ 2 → ⊥) → (n ≡ 1) ⊎ (n ≡ 2) → P
-  neither k n number no_one no_two = ⊎_elim (λ one. absurd (no_one (omega (arith, number, one)))) (λ two. absurd (no_two (omega (arith, number, two))))
-
   -- 1 or 2 that it is there
   there : (end : Result End E) (n : ℕ) → EndsAs end n → IfOk end (λ e. (how : Outcome) → e ≡ ends.Came how → P) → (n ≡ 1) ⊎ (n ≡ 2) → P
   there (Ok (ends.Came OnDisk)) n number said either = said OnDisk refl
   there (Ok (ends.Came Unsynced)) n number said either = said Unsynced refl
   there (Ok (ends.Came Gone)) n number said either = said Gone refl
   there (Ok (ends.Came Damaged)) n number said either = absurd number
-  there (Ok ends.Overtaken) n number said either = neither 3 n number (λ e. omega (arith, e)) (λ e. omega (arith, e)) either
-  there (Ok ends.Unseen) n number said either = neither 4 n number (λ e. omega (arith, e)) (λ e. omega (arith, e)) either
-  there (Ok (ends.Listed names)) n number said either = neither 0 n number (λ e. omega (arith, e)) (λ e. omega (arith, e)) either
-  there (Ok ends.Kept) n number said either = neither 0 n number (λ e. omega (arith, e)) (λ e. omega (arith, e)) either
+  there (Ok ends.Overtaken) n number said either = neither P 3 n number (λ e. omega (arith, e)) (λ e. omega (arith, e)) either
+  there (Ok ends.Unseen) n number said either = neither P 4 n number (λ e. omega (arith, e)) (λ e. omega (arith, e)) either
+  there (Ok (ends.Listed names)) n number said either = neither P 0 n number (λ e. omega (arith, e)) (λ e. omega (arith, e)) either
+  there (Ok ends.Kept) n number said either = neither P 0 n number (λ e. omega (arith, e)) (λ e. omega (arith, e)) either
   there (Err error) n number said either = absurd number
 
 -- the number of an end says what the end does
-ended_says : {E : Type 0} (task : Task) (m : Matter) (end : Result End E) (n : ℕ) (parts : Parts) (before calls : List Call) → EndsAs end n → Says task m end parts before calls → SaysEnd task m n parts before calls
-ended_says tasks.Put m end n parts before calls number said = on_disk (IsStored parts m.bytes calls) end n number said
-ended_says tasks.Keep m end n parts before calls number said = on_disk (IsStored parts m.bytes calls) end n number said
-ended_says tasks.Replace m end n parts before calls number said = on_disk (AreRemoved m.names before calls) end n number said
-ended_says tasks.Remove m end n parts before calls number said = on_disk (AreRemoved m.names before calls) end n number said
-ended_says tasks.List m end n parts before calls number said = tt
-ended_says tasks.KeepAll m (Ok end) n parts before calls number said = said
-ended_says tasks.KeepAll m (Err error) n parts before calls number said = absurd number
-ended_says tasks.PutJudged m (Ok end) n parts before calls number said =
-    (on_disk (IsStored parts m.bytes calls) (Ok end) n number said.0, there (HasOnlySeen m.names before calls) (Ok end) n number said.1)
-ended_says tasks.PutJudged m (Err error) n parts before calls number said = absurd number
+ended_says : (E : Type 0) (task : Task) (m : Matter) (end : Result End E) (n : ℕ) (parts : Parts) (before calls : List Call) → EndsAs end n → Says task m end parts before calls → SaysEnd task m n parts before calls
+ended_says E tasks.Put m end n parts before calls number said = on_disk {E = E} (IsStored parts m.bytes calls) end n number said
+ended_says E tasks.Keep m end n parts before calls number said = on_disk {E = E} (IsStored parts m.bytes calls) end n number said
+ended_says E tasks.Replace m end n parts before calls number said = on_disk {E = E} (AreRemoved m.names before calls) end n number said
+ended_says E tasks.Remove m end n parts before calls number said = on_disk {E = E} (AreRemoved m.names before calls) end n number said
+ended_says E tasks.List m end n parts before calls number said = tt
+ended_says E tasks.KeepAll m (Ok end) n parts before calls number said = said
+ended_says E tasks.KeepAll m (Err error) n parts before calls number said = absurd number
+ended_says E tasks.PutJudged m (Ok end) n parts before calls number said =
+    (on_disk {E = E} (IsStored parts m.bytes calls) (Ok end) n number said.0, there {E = E} (HasOnlySeen m.names before calls) (Ok end) n number said.1)
+ended_says E tasks.PutJudged m (Err error) n parts before calls number said = absurd number
 
 module _ {E : Type 0} (m : Matter) (before calls : List Call) where
   unsynced : (end : Result End E) (n : ℕ) → EndsAs end n → Caused m end before calls → n ≡ 2 → HasCall FailsToSync before calls
@@ -117,11 +118,11 @@ module _ {E : Type 0} (m : Matter) (before calls : List Call) where
 -- a turn has ended as its order
 pub has_ended : {E : Type 0} (before : List Call) (state : State) (call : FolderCall) (end : Result End E) (n : ℕ) → call.kind ≡ 0 → call.number ≡ n → state.asked ≡ None → EndsAs end n
     → EndsSaying before state end → HasEnded before state call
-has_ended before state call end n ended told none number says = let ends_as = subst (λ (k : ℕ). EndsAs end k) (sym told) number in (
+has_ended {E} before state call end n ended told none number says = let ends_as = subst (λ (k : ℕ). EndsAs end k) (sym told) number in (
   ended,
   none,
   λ parts may. (
-    ended_says state.task state.matter end call.number parts before (state.calls ++ before) ends_as (says parts may).0,
+    ended_says E state.task state.matter end call.number parts before (state.calls ++ before) ends_as (says parts may).0,
     number_caused state.matter before (state.calls ++ before) end call.number ends_as (says parts may).1,
   ),
 )

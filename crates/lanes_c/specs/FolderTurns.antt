@@ -140,7 +140,7 @@ abbrev pub HasEnded : List Call → State → FolderCall → Type 0
 HasEnded before state call =
     (call.kind ≡ 0) × (state.asked ≡ None)
     × ((parts : Parts) → MayTake state.task state.matter parts before
-        → SaysEnd state.task state.matter call.number parts before (state.calls ++ before) × NumberCause state.matter call.number before (state.calls ++ before))
+    → SaysEnd state.task state.matter call.number parts before (state.calls ++ before) × NumberCause state.matter call.number before (state.calls ++ before))
 
 -- What is asked for next is in turn after what was told; or the turn has ended, or is refused, which has its cause.
 abbrev pub GoesOn : List Call → State → FolderCall → Given → Type 0
