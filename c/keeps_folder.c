@@ -2,6 +2,7 @@
  *
  *     keeps_folder FOLDER make WORDS      puts the empty table of these words into an empty folder
  *     keeps_folder FOLDER import CSV      adds rows of comma-separated values, given as a text with a heading
+ *     keeps_folder FOLDER load NUMBER CSV the same as batch 1.NUMBER; sent again it adds no rows, and other rows of that name are refused
  *     keeps_folder FOLDER query SQL       answers a query over all parts
  *     keeps_folder FOLDER pack            joins all parts into one
  */
@@ -99,6 +100,13 @@ static bytes joined(const char *folder, lanes_part_names *names) {
     exit(2);
 }
 
+/* The same bytes once more. */
+static bytes copied(bytes of) {
+    bytes copy = {room_for(of.length), of.length};
+    memcpy(copy.at, of.at, of.length);
+    return copy;
+}
+
 /* Puts a part, again if what had its name is gone meanwhile. */
 static void put(const char *folder, bytes part) {
     lanes_place place;
@@ -129,11 +137,11 @@ static bytes emptied(bytes whole) {
     return created(words, length);
 }
 
-static void import(const char *folder, const char *csv) {
-    lanes_part_names names;
+/* The file of the rows of a text, as the batch 1.number, or, if that is 0, under a name that is drawn. */
+static bytes loaded(bytes empty, const char *csv, uint32_t number) {
     lanes_place place;
     uint64_t drawn[4];
-    bytes empty = emptied(joined(folder, &names)), load = {NULL, 0};
+    bytes load = {NULL, 0};
     FILE *random = fopen("/dev/urandom", "rb");
     if (!random || fread(drawn, sizeof *drawn, 4, random) != 4) exit(2);
     fclose(random);
@@ -141,11 +149,33 @@ static void import(const char *folder, const char *csv) {
         free(load.at);
         room = load.length;
         load.at = room_for(room);
-        expect(lanes_import(empty.at, empty.length, (const uint8_t *)csv, strlen(csv), true, 0, 0, drawn, 4, load.at, room, &load.length, &place), place);
+        expect(lanes_import(empty.at, empty.length, (const uint8_t *)csv, strlen(csv), true, number ? 1 : 0, number, drawn, 4, load.at, room, &load.length, &place), place);
     }
-    put(folder, load);
     free(empty.at);
+    return load;
+}
+
+static void import(const char *folder, const char *csv) {
+    lanes_part_names names;
+    put(folder, loaded(emptied(joined(folder, &names)), csv, 0));
     free(names.names);
+}
+
+/* Puts a batch of a given name, which goes with all parts that are there; it is looked at them again if another one came meanwhile. */
+static void load(const char *folder, uint32_t number, const char *csv) {
+    for (int tried = 0; tried < TRIES; tried++) {
+        lanes_part_names names;
+        lanes_place place;
+        uint64_t came;
+        bytes whole = joined(folder, &names), batch = loaded(emptied(copied(whole)), csv, number);
+        merge(&whole, copied(batch));
+        expect(lanes_folder_follow(folder, LANES_FOLDER_PUT_JUDGED, batch.at, batch.length, &names, NULL, &came, &place), place);
+        free(whole.at);
+        free(batch.at);
+        free(names.names);
+        if (is_there(came)) return;
+    }
+    exit(2);
 }
 
 static void query(const char *folder, const char *sql) {
@@ -185,10 +215,11 @@ int main(int count, char **words) {
     const char *act = count > 2 ? words[2] : "";
     if (count == 4 && !strcmp(act, "make")) put(words[1], created((const uint8_t *)words[3], strlen(words[3])));
     else if (count == 4 && !strcmp(act, "import")) import(words[1], words[3]);
+    else if (count == 5 && !strcmp(act, "load")) load(words[1], (uint32_t)strtoul(words[3], NULL, 10), words[4]);
     else if (count == 4 && !strcmp(act, "query")) query(words[1], words[3]);
     else if (count == 3 && !strcmp(act, "pack")) pack(words[1]);
     else {
-        fprintf(stderr, "keeps_folder FOLDER make WORDS | import CSV | query SQL | pack\n");
+        fprintf(stderr, "keeps_folder FOLDER make WORDS | import CSV | load NUMBER CSV | query SQL | pack\n");
         return 2;
     }
     return 0;

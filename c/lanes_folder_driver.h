@@ -16,7 +16,8 @@ typedef struct lanes_part_names {
     size_t count;
 } lanes_part_names;
 
-/* Follows a command of lanes.h in the folder of a path. `about` are the parts that are replaced, removed or kept; it may be null, for none.
+/* Follows a command of lanes.h in the folder of a path. `about` are the parts that are replaced, removed or kept, or that were looked at; it may
+ * be null, for none.
  * `listed` is given the names that a listing gave, and may be null; free() frees them.
  *
  * Answers 0, and in *came what the command has come to, as LANES_ON_DISK; or the number of a refusal, with its place. */

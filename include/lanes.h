@@ -476,8 +476,10 @@ enum {
     LANES_FOLDER_REMOVE = 4,
     /* list the names of the parts */
     LANES_FOLDER_LIST = 5,
-    /* have parts on the disk that are there; all of them are read, and kept until the turn is ended */
-    LANES_FOLDER_KEEP_ALL = 6
+    /* have parts on the disk that are there; all of them are read, and kept until the turn is ended, so a turn for each is better */
+    LANES_FOLDER_KEEP_ALL = 6,
+    /* put a part that goes with the parts of the names of lanes_folder_name, if no others are there: a load under a given name */
+    LANES_FOLDER_PUT_JUDGED = 7
 };
 
 /* What a call of lanes_folder_next asks for. */
@@ -536,7 +538,9 @@ enum {
     /* the part is there, and it or the folder could not be synced, so a loss of power may take it away; nothing was removed */
     LANES_UNSYNCED = 2,
     /* a part is gone that was there: another process has packed the folder. Nothing was removed; begin anew, from what is there now */
-    LANES_GONE = 3
+    LANES_GONE = 3,
+    /* a part is there that LANES_FOLDER_PUT_JUDGED was not told of; nothing was put. Look at it, and begin anew */
+    LANES_UNSEEN = 4
 };
 
 /* A call on a folder. */
@@ -554,7 +558,7 @@ uint8_t lanes_folder_begin(uint8_t command, const uint8_t *temporary, size_t tem
                            lanes_turn *turn, lanes_place *place);
 
 /* Adds a name. Before the first call of lanes_folder_next it is that of a part which the command is about: one that is replaced, removed or
- * kept. After that it is one that LANES_CALL_LIST gave.
+ * kept, or that was looked at before the part is put, best in ascending order. After that it is one that LANES_CALL_LIST gave.
  *
  * Refused: LANES_NOT_OPEN when there is no turn; LANES_SYNTAX when the name is no text, so that it is no part's. */
 uint8_t lanes_folder_name(const uint8_t *name, size_t name_length, lanes_turn *turn, lanes_place *place);

@@ -2,9 +2,7 @@
 
 from __future__ import annotations
 
-import contextlib
 import errno
-import fcntl
 import html
 import os
 import struct
@@ -153,8 +151,8 @@ class Folder:
         if ranges:
             empty = _empty_of(held)
             self._put(empty.apply(empty._front() + bytes(4) + len(ranges).to_bytes(8, "little") + b"".join(ranges)))
-        elif not self._settle(names):
-            return self.delete(condition)
+        else:
+            part_folder.keep(self.path, names)
         return rows
 
     def delete_rows(self, batch: GivenName, first: int, last: Optional[int] = None, *, held: bool = False) -> bool:
@@ -193,8 +191,8 @@ class Folder:
             after, own = after.apply(offer), own.apply(offer)
         if after != held:
             self._put_beside(_lacked(own, held), names)
-        elif own != _empty_of(held) and not self._settle(names):
-            return self.apply(*offers)
+        elif own != _empty_of(held):
+            part_folder.keep(self.path, names)
         return after.check()[0] - held.check()[0]
 
     def pack(self, *, everything: bool = False) -> Tuple[int, int]:
@@ -234,9 +232,9 @@ class Folder:
             held, names = self._joined()
             left = held.forget()
             if left == held:
-                if self._settle(names):
-                    return 0
-            elif part_folder.replace(self.path, left.to_bytes(), names) is not None:
+                part_folder.keep(self.path, names)
+                return 0
+            if part_folder.replace(self.path, left.to_bytes(), names) is not None:
                 return held.check()[0] - left.check()[0]
             wait.again()
 
@@ -385,32 +383,30 @@ class Folder:
         return new
 
     def _put_beside(self, part: Table, names: list[str]) -> None:
-        """Puts a part that goes with the parts of these names, if it goes with those that came since, too. These are looked at under the
-        exclusive lock of the folder: of two parts that are put at once, and have other rows under one name, one is refused. If the file
-        system has no such lock it goes without, and readers find the two.
+        """Puts a part that goes with the parts of these names, if no others are there. If one came since, it is looked at, and the part is
+        put anew: of two parts that are put at once, and have other rows under one name, one is refused. If the file system has no lock of
+        the folder it goes without, and readers find the two.
 
         Raises:
             Refused: `Conflict`.
+            Busy: others have had the folder for ten seconds, or parts have come for so long.
         """
-        with contextlib.ExitStack() as held:
 
-            def judge() -> None:
-                held.close()
-                held.enter_context(part_folder.locked(self.path, fcntl.LOCK_EX))
-                since = [name for name in folder_driver.names_in(self.path) if name not in names]
-                if since:
-                    part.merge(self._join(since))
+        def look(found: list[str]) -> None:
+            since = [name for name in found if name not in names]
+            if since:
+                part.merge(self._join(since))
 
-            part_folder.put(self.path, part.to_bytes(), judge)
-
-    def _settle(self, names: list[str]) -> bool:
-        """Has the parts of these names on the disk, of which a call answers that they hold already what it was to add. False if a pack was
-        here meanwhile."""
+        data, wait = part.to_bytes(), self._wait()
         try:
-            part_folder.settle(self.path, names)
-        except FileNotFoundError:
-            return False
-        return True
+            while not part_folder.put_beside(self.path, data, names):
+                _, names = self._looked(look)
+                wait.again()
+        except OSError as fault:
+            if fault.errno != errno.ENOLCK:
+                raise
+            self._looked(look)
+            self._put(part)
 
     def _put(self, part: Table) -> None:
         part_folder.put(self.path, part.to_bytes())

@@ -8,17 +8,17 @@ import fcntl
 import os
 import re
 import secrets
-from typing import Callable, Iterable, Optional, Tuple
+from typing import Iterable, Optional, Tuple
 
 from . import calls
 from .errors import Busy, Damaged, Refused
 from .waiting import Wait
 
 #: The commands of `lanes_folder_begin`.
-PUT, KEEP, REPLACE, REMOVE, LIST, KEEP_ALL = range(1, 7)
+PUT, KEEP, REPLACE, REMOVE, LIST, KEEP_ALL, PUT_JUDGED = range(1, 8)
 
 #: What a command comes to.
-ON_DISK, UNSYNCED, GONE = 1, 2, 3
+ON_DISK, UNSYNCED, GONE, UNSEEN = range(1, 5)
 
 #: What is told of a call.
 _NOTHING, _DONE, _FAILED, _TAKEN, _WROTE, _LISTED, _MISSING, _FOUND = range(8)
@@ -37,9 +37,8 @@ _IS_DONE: _Told = (_DONE, 0, b"")
 class Driver:
     """A folder that is open, with the file that is open in it and its lock."""
 
-    def __init__(self, folder: str, before_link: Optional[Callable[[], None]] = None) -> None:
+    def __init__(self, folder: str) -> None:
         self.folder = folder
-        self._before_link = before_link
         self._opened = os.open(folder, os.O_RDONLY | os.O_DIRECTORY | os.O_CLOEXEC)
         self._file = self._lock = -1
         self._part, self._temporary = b"", ""
@@ -128,8 +127,6 @@ class Driver:
     def _link(self, number: int, names: str) -> _Told:
         """Gives the temporary the name of its part."""
         first, path = (os.path.join(self.folder, name) for name in (names[:number], names[number:]))
-        if self._before_link is not None:
-            self._before_link()
         self._path = path
         try:
             os.link(first, path)
@@ -175,7 +172,8 @@ class Driver:
         return wait_for_lock(self.folder, self._lock, kind)
 
     def _list(self, number: int, name: str) -> _Told:
-        self.names = names_in(self.folder)
+        """Lists the names of parts, in ascending order: those of two listings."""
+        self.names = sorted({*_names_once(self.folder), *_names_once(self.folder)})
         return _LISTED, 0, b""
 
     def _read(self, number: int, name: str) -> _Told:
@@ -233,14 +231,8 @@ def wait_for_lock(folder: str, opened: int, kind: int) -> bool:
             return False
 
 
-def names_in(folder: str) -> list[str]:
-    """The names of a folder's parts, in ascending order: those of two listings, by who has a lock already. A folder that has a part's name is no
-    part."""
-    return sorted({*_names_once(folder), *_names_once(folder)})
-
-
 def _names_once(folder: str) -> list[str]:
-    """The names of parts in one listing."""
+    """The names of parts in one listing. A folder that has a part's name is no part."""
     with os.scandir(folder) as entries:
         return [entry.name for entry in entries if is_part_name(entry.name) and not entry.is_dir()]
 

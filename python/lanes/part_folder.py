@@ -12,19 +12,16 @@ import re
 import secrets
 import stat
 import warnings
-from typing import Callable, Iterable, Iterator, Optional
+from typing import Iterable, Iterator, Optional
 
 from . import folder_driver
 from .errors import Busy, Damaged
-from .folder_driver import Driver, is_named, leads_nowhere, names_in, wait_for_lock
+from .folder_driver import Driver, is_named, leads_nowhere, wait_for_lock
 
 _TEMPORARY = re.compile(r"\.part-[0-9a-f]{16}")
 
 #: How many bytes at the front of a part have its schema and its number of batches.
 _FRONT = 4096
-
-#: How many parts are synced at once.
-_SYNCS = 16
 
 #: How often a part is put, if the one that was there before is gone when it is compared.
 _TRIES = 100
@@ -82,47 +79,55 @@ def read_part(folder: str, name: str) -> bytes:
     return data
 
 
-def put(folder: str, data: bytes, before_link: Optional[Callable[[], None]] = None) -> str:
+def put(folder: str, data: bytes) -> str:
     """Puts bytes into a folder as a part, unless it has it; its name. A warning tells that it could not be synced.
-
-    Args:
-        before_link: what is done once the bytes are written, before they get their name.
 
     Raises:
         Damaged: the part of this name has other bytes.
         OSError: the part can't be written.
     """
-    name = part_name(data)
-    path = os.path.join(folder, name)
+    _put(folder, folder_driver.PUT, data, ())
+    return part_name(data)
+
+
+def put_beside(folder: str, data: bytes, seen: Iterable[str]) -> bool:
+    """The same, if the folder has no parts but those of these names; whether it has no others.
+
+    Raises:
+        Busy: others have had the folder for ten seconds.
+        OSError: `errno.ENOLCK` if the file system has no locks.
+    """
+    return _put(folder, folder_driver.PUT_JUDGED, data, seen) != folder_driver.UNSEEN
+
+
+def _put(folder: str, command: int, data: bytes, seen: Iterable[str]) -> int:
+    """What a put comes to. It is begun anew if a sweep took the temporary, or if the part that was there is gone when it is compared."""
+    path = os.path.join(folder, part_name(data))
     for _ in range(_TRIES):
-        with Driver(folder, before_link) as driver:
-            with contextlib.suppress(FileExistsError):
-                end = driver.follow(folder_driver.PUT, data)
-                if end == folder_driver.UNSYNCED:
-                    _warn(path)
-                if end != folder_driver.GONE:
-                    return name
+        with Driver(folder) as driver, contextlib.suppress(FileExistsError):
+            end = driver.follow(command, data, seen)
+            if end == folder_driver.UNSYNCED:
+                _warn(path)
+            if end != folder_driver.GONE:
+                return end
     raise Busy("the part comes and goes", path)
 
 
-def settle(folder: str, names: Iterable[str]) -> None:
-    """Syncs parts that are there, some at once, and then their folder. A warning tells of what can't be synced.
+def keep(folder: str, names: Iterable[str]) -> None:
+    """Has the parts of these names on the disk, if they are there: what took one away is on the disk. A warning tells of what can't be synced.
 
     Raises:
-        FileNotFoundError: one is gone.
+        OSError: a part can't be read.
     """
-    from concurrent.futures import ThreadPoolExecutor
-
-    with ThreadPoolExecutor(_SYNCS) as pool:
-        for _ in pool.map(_settle_one, [os.path.join(folder, name) for name in names]):
-            pass
-    _sync_folder(folder, folder)
-
-
-def _settle_one(path: str) -> None:
-    """Syncs a part that is there."""
-    with open(path, "rb", buffering=0) as file:
-        _sync(file.fileno(), path)
+    with Driver(folder) as driver:
+        for name in names:  # a turn for each: it costs the time of all that it was told, at each call
+            try:
+                driver.follow(folder_driver.KEEP_ALL, names=[name])
+            except OSError:
+                if driver.unsynced is None:
+                    raise
+                _warn(driver.unsynced[1])
+                driver.unsynced = None
 
 
 def make(folder: str, data: bytes) -> None:
@@ -237,15 +242,6 @@ def size(folder: str, name: str) -> Optional[int]:
             raise
         return None
     return found.st_size if stat.S_ISREG(found.st_mode) else None
-
-
-def _sync_folder(folder: str, path: str) -> None:
-    """Syncs a folder, in which a file of this path is."""
-    opened = os.open(folder, os.O_RDONLY | os.O_DIRECTORY | os.O_CLOEXEC)
-    try:
-        _sync(opened, path)
-    finally:
-        os.close(opened)
 
 
 def _sync(opened: int, path: str) -> None:

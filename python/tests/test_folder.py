@@ -393,8 +393,8 @@ class OnTheDisk(InFolder):
             ("a delete by names that comes again", lambda: self.folder.delete_rows("1.1", 0), [part_folder.part_name(self.empty.delete_rows("1.1", 0).to_bytes()), "site"]),
         ]:
             with self.subTest(words):
-                *synced, last = [path for path in Syncs().of(act) if not path.startswith(".part-")]
-                self.assertEqual((sorted(synced), last), (wanted[:-1], "site"))
+                synced = [path for path in Syncs().of(act) if not path.startswith(".part-")]
+                self.assertEqual((sorted({*synced}), synced[-1]), (wanted, "site"))
                 self.assertEqual(self.folder.parts(), parts)
                 with self.assertWarns(RuntimeWarning):
                     Syncs(fails_at=len(wanted)).of(act)
@@ -441,17 +441,17 @@ class OnTheDisk(InFolder):
         self.only_parts(2)
         self.assertEqual(len(self.folder.read()), 2)
 
-    def test_a_pack_meanwhile_has_parts_looked_at_again(self) -> None:
+    def test_a_pack_meanwhile_takes_nothing_from_an_answer(self) -> None:
         load = self.empty.import_csv("1,1\n", heading=False, batch="1.1")
         self.folder.apply(load.to_bytes())
-        settle = part_folder.settle
+        keep = part_folder.keep
 
         def late(folder: str, names: list[str]) -> None:
             self.folder.pack(everything=True)
-            settle(folder, names)
+            keep(folder, names)
 
         for act in lambda: self.folder.apply(load.to_bytes()), lambda: self.folder.delete("A = 9"):
-            with unittest.mock.patch.object(part_folder, "settle", late):
+            with unittest.mock.patch.object(part_folder, "keep", late):
                 self.assertEqual(act(), 0)
             self.folder.delete_rows("9.9", 1)
 
@@ -597,8 +597,8 @@ class Forgets(InFolder):
     def test_a_forget_of_nothing_has_what_is_there_on_the_disk(self) -> None:
         self.folder.import_csv("1,1\n", heading=False, batch="1.1")
         parts = self.folder.parts()
-        *synced, last = Syncs().of(self.folder.forget)
-        self.assertEqual((sorted(synced), last, self.folder.parts()), (parts, "site", parts))
+        synced = Syncs().of(self.folder.forget)
+        self.assertEqual((sorted({*synced}), synced[-1], self.folder.parts()), ([*parts, "site"], "site", parts))
         with self.assertWarns(RuntimeWarning):
             Syncs(fails_at=1).of(self.folder.forget)
 
@@ -771,6 +771,19 @@ class AtOnce(InFolder):
             for name in self.folder.parts():
                 if pathlib.Path(self.path, name).read_bytes() != self.empty.to_bytes():
                     os.unlink(os.path.join(self.path, name))
+
+    def test_a_load_is_put_anew_beside_what_came_meanwhile(self) -> None:
+        other, beside, tries = self.empty.import_csv("2,1\n", heading=False, batch="7.8"), part_folder.put_beside, []
+
+        def late(folder: str, data: bytes, seen: list[str]) -> bool:
+            part_folder.put(self.path, other.to_bytes())
+            tries.append(beside(folder, data, seen))
+            return tries[-1]
+
+        with unittest.mock.patch.object(part_folder, "put_beside", late):
+            self.assertEqual(self.folder.import_csv("1,1\n", heading=False, batch="7.7"), 1)
+        self.assertEqual((tries, len(self.folder), len(self.folder.parts())), ([False, True], 2, 3))
+        self.only_parts(3)
 
     def test_what_came_since_a_pull_looked_is_looked_at_again(self) -> None:
         one, other = (self.empty.import_csv(f"{value},1\n", heading=False, batch="7.7") for value in (1, 2))

@@ -10,15 +10,16 @@ static const char PART[] = "the bytes of a part", OTHER[] = "others", TEMPORARY[
  * F(ile read), U(nlocked). */
 static const char CALLS[] = ".MWSLRDEHNFU";
 
-/* What is told, as it is written: d(one), f(ailed), t(aken), w(ritten whole), s(even bytes written), l(isted), n(o file), p(art found), o(ther
- * bytes found). */
+/* What is told, as it is written: d(one), f(ailed), t(aken), w(ritten whole), s(even bytes written), l(isted), m(ore listed), n(o file), p(art
+ * found), o(ther bytes found). */
 static uint8_t answer_of(char letter) {
     switch (letter) {
     case 'd': return LANES_DONE;
     case 't': return LANES_TAKEN;
     case 'w':
     case 's': return LANES_WROTE;
-    case 'l': return LANES_LISTED;
+    case 'l':
+    case 'm': return LANES_LISTED;
     case 'n': return LANES_NO_FILE;
     case 'p':
     case 'o': return LANES_FOUND;
@@ -48,8 +49,10 @@ static void name(lanes_turn *turn, const char *of) {
     expect(lanes_folder_name(text_of(of), strlen(of), turn, &place) == 0, "a name is added");
 }
 
+static const char *const NAMES[] = {"1.lanes", "2.lanes", "3.lanes"};
+
 /* A command, told these answers, asks for these calls, and is refused with this number and place, or comes to this. A listing gives the first of
- * two names, and the second one if that is not gone. */
+ * two names, the second one if that is not gone, and a third one if it gives more. */
 static void comes(uint8_t command, const char *answers, const char *calls, uint8_t number, uint64_t to, bool is_gone) {
     lanes_turn turn = begun(command);
     lanes_call call = {0, 0};
@@ -59,14 +62,15 @@ static void comes(uint8_t command, const char *answers, const char *calls, uint8
     char made[64] = "", what[200];
     size_t at = 0, length;
     const char *bytes = "";
-    bool is_about_parts = command == LANES_FOLDER_REPLACE || command == LANES_FOLDER_REMOVE || command == LANES_FOLDER_KEEP_ALL;
-    for (int i = 1; is_about_parts && i < 3; i++) name(&turn, i == 1 ? "1.lanes" : "2.lanes");
+    bool is_about_parts = command == LANES_FOLDER_REPLACE || command == LANES_FOLDER_REMOVE || command == LANES_FOLDER_KEEP_ALL || command == LANES_FOLDER_PUT_JUDGED;
+    for (int i = 0; is_about_parts && i < 2; i++) name(&turn, NAMES[i]);
     for (; at < sizeof made - 1; at++) {
         uint8_t room[ROOM];
         found = lanes_folder_next(&turn, answer, told_number, text_of(bytes), strlen(bytes), &call, room, sizeof room, &length, &place);
         if (found || call.kind == LANES_ENDED || !answers[at]) break;
         made[at] = CALLS[call.kind];
-        for (int i = 1; answers[at] == 'l' && i < (is_gone ? 2 : 3); i++) name(&turn, i == 1 ? "1.lanes" : "2.lanes");
+        int listed = answers[at] == 'm' ? 3 : answers[at] != 'l' ? 0 : is_gone ? 1 : 2;
+        for (int i = 0; i < listed; i++) name(&turn, NAMES[i]);
         answer = answer_of(answers[at]);
         told_number = number_of(answers[at], call);
         bytes = answers[at] == 'p' ? PART : answers[at] == 'o' ? OTHER : "";
@@ -111,6 +115,20 @@ static void try_replace(void) {
     comes(LANES_FOLDER_REMOVE, "f", "E", LANES_BUSY, 0, false);
 }
 
+/* A part that is to go with all that are there is put only if no other one came. */
+static void try_put_judged(void) {
+    comes(LANES_FOLDER_PUT_JUDGED, "dwddldddd", "MWSENLRDU", 0, LANES_ON_DISK, false);
+    comes(LANES_FOLDER_PUT_JUDGED, "dwddldddd", "MWSENLRDU", 0, LANES_ON_DISK, true);
+    comes(LANES_FOLDER_PUT_JUDGED, "dwddmdd", "MWSENRU", 0, LANES_UNSEEN, false);
+    comes(LANES_FOLDER_PUT_JUDGED, "dwddlddfd", "MWSENLRDU", 0, LANES_UNSYNCED, false);
+    comes(LANES_FOLDER_PUT_JUDGED, "dwddltdpddd", "MWSENLRFSDU", 0, LANES_ON_DISK, false);
+    comes(LANES_FOLDER_PUT_JUDGED, "dwddltdnd", "MWSENLRFU", 0, LANES_GONE, false);
+    comes(LANES_FOLDER_PUT_JUDGED, "dwddltdod", "MWSENLRFU", LANES_DAMAGED, 0, false);
+    comes(LANES_FOLDER_PUT_JUDGED, "dwdfd", "MWSER", LANES_BUSY, 0, false);
+    comes(LANES_FOLDER_PUT_JUDGED, "dwddfdd", "MWSENRU", LANES_SYSTEM, ENOSPC, false);
+    comes(LANES_FOLDER_PUT_JUDGED, "dwfd", "MWSR", LANES_SYSTEM, ENOSPC, false);
+}
+
 static void try_names(void) {
     comes(LANES_FOLDER_LIST, "dld", "HNU", 0, LANES_FOLDER_DONE, false);
     comes(LANES_FOLDER_LIST, "f", "H", LANES_SYSTEM, ENOSPC, false);
@@ -148,6 +166,7 @@ static void try_handle(void) {
 int main(void) {
     try_put();
     try_replace();
+    try_put_judged();
     try_names();
     try_handle();
     return told_all("turns");

@@ -17,4 +17,5 @@ pub mod InputFaults
 pub mod InputLoads
 pub mod SaidAgain
 pub mod TurnHandleFields
+pub mod TurnEnds
 pub mod TurnSteps

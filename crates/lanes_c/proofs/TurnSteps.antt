@@ -1,8 +1,8 @@
 -- What a handle of a turn has, and what is told of it.
-use Rattle.std.proofs.Common.{◌≡◌, refl, sym, subst, ℕ, List, MatchOption, Option, Some, None, Err}
+use Rattle.std.proofs.Common.{◌≡◌, refl, sym, subst, ap, ◌∙◌, inl, ℕ, List, MatchOption, MatchResult, Option, Some, None, Result, Ok, Err}
 use Rattle.folder_history.specs.Call.{Call}
 use Rattle.folder_replay.specs.Turns.{State}
-use Rattle.lanes_c.specs.FolderTurns.{Drives, DrivesOpen}
+use Rattle.lanes_c.specs.FolderTurns.{Drives, DrivesOpen, GoesOn, HasTold, IsAbout, names_left}
 use Rattle.lanes_c.specs.Rooms.{Given}
 use Rattle.lanes_c.specs.declared.fault.Fault.{Fault}
 use Rattle.lanes_c.specs.declared.fault.Fault.TheVariants.{NotOpen}
@@ -26,3 +26,38 @@ module _ (before : List Call) (kind number : ℕ) (bytes : List ℕ) (old new : 
       (λ (s : Option State). MatchOption s ((given ≡ Err NotOpen) × (new.state ≡ None)) (λ one. MatchOption new.state ⊥ (λ other. Drives before kind number bytes one other call given)))
       (sym opened)
       (subst (λ (s : Option State). MatchOption s ⊥ (λ other. Drives before kind number bytes was other call given)) (sym is) drives)
+
+module _ {A : Type 0} (before : List Call) (kind number : ℕ) (bytes : List ℕ) (was mid is : State) (call_of : A → FolderCall) (names_of : A → List ℕ) where
+  -- what is asked for next, or why nothing is
+  abbrev pub GoesOnSo : Result A Fault → Type 0
+  GoesOnSo result = MatchResult result (λ asked. GoesOn before is (call_of asked) (Ok (names_of asked))) (λ fault. (call : FolderCall) → GoesOn before is call (Err fault))
+
+  -- the same of an answer and what came of it
+  abbrev pub DrivesSo : Result A Fault → Type 0
+  DrivesSo result =
+      MatchResult result (λ asked. Drives before kind number bytes was is (call_of asked) (Ok (names_of asked)))
+      (λ fault. (call : FolderCall) → Drives before kind number bytes was is call (Err fault))
+
+  drives : IsAbout is was → (kind ≡ 0 → is.calls ≡ was.calls) → ((kind ≡ 0 → ⊥) → HasTold kind number bytes was is.calls) → is.listed ≡ names_left kind was.listed
+      → (result : Result A Fault) → GoesOnSo result → DrivesSo result
+  drives about untold told listed (Ok asked) goes = record { about = about; untold = untold; told = λ other. inl (told other); listed = listed; goes = goes }
+  drives about untold told listed (Err fault) goes = λ call. record { about = about; untold = untold; told = λ other. inl (told other); listed = listed; goes = goes call }
+
+  -- 0 tells nothing
+  pub drives_untold : kind ≡ 0 → mid ≡ was → IsAbout is mid → is.calls ≡ mid.calls → is.listed ≡ mid.listed → (result : Result A Fault) → GoesOnSo result → DrivesSo result
+  drives_untold zero same about calls listed =
+      drives
+      (about.0 ∙ ap (λ (s : State). s.task) same, about.1 ∙ ap (λ (s : State). s.matter) same)
+      (λ told. calls ∙ ap (λ (s : State). s.calls) same)
+      (λ other. absurd (other zero))
+      (listed ∙ ap (λ (s : State). s.listed) same ∙ ap (λ (k : ℕ). names_left k was.listed) (sym zero))
+
+  -- another answer was told
+  pub drives_told : (kind ≡ 0 → ⊥) → IsAbout mid was → HasTold kind number bytes was mid.calls → mid.listed ≡ names_left kind was.listed
+      → IsAbout is mid → is.calls ≡ mid.calls → is.listed ≡ mid.listed → (result : Result A Fault) → GoesOnSo result → DrivesSo result
+  drives_told other same told left about calls listed =
+      drives
+      (about.0 ∙ same.0, about.1 ∙ same.1)
+      (λ zero. absurd (other zero))
+      (λ also. subst (λ (c : List Call). HasTold kind number bytes was c) (sym calls) told)
+      (listed ∙ left)

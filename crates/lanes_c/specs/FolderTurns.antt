@@ -1,20 +1,28 @@
 -- What the calls that drive a folder tell.
-use Rattle.std.specs.Prelude.{◌≡◌, ◌≢◌, ◌⊎◌, ℕ, ◌==◌, if◌then◌else◌, List, [], ◌++◌, ◌∷◌, drop, length, MatchOption, Option, Some, None, Result, Ok, Err}
+use Rattle.std.specs.Prelude.{◌≡◌, ◌≢◌, ◌⊎◌, ℕ, ◌<◌, ◌==◌, if◌then◌else◌, List, [], ◌++◌, ◌∷◌, drop, length, MatchOption, Option, Some, None, Result, Ok, Err}
 use Rattle.folder_history.specs.Call.{Call, Made, Wrote, Synced, Linked, Removed, Settled, Locked, Unlocked, Began, Listed, Read, Exclusive, Shared}
 use Rattle.folder_history.specs.Parts.{Parts}
 use Rattle.folder_history.specs.Turn.{IsStored}
 use Rattle.folder_home.specs.PartName.{part_name}
+use Rattle.folder_protocol.specs.Causes.{Fails, FailsToSync, FindsNone, FindsOther, HasCall, Lacks}
+use Rattle.folder_protocol.specs.Goes.{AreRemoved}
+use Rattle.folder_protocol.specs.Keeping.{AreKept}
+use Rattle.folder_protocol.specs.Taking.{HasListed}
+use Rattle.folder_protocol.specs.declared.putting.Outcome.TheVariants.{OnDisk, Unsynced, Gone, Damaged}
 use Rattle.folder_replay.specs.Calls.{answered, names_of, found_of}
-use Rattle.folder_replay.specs.Orders.{Matter, MayTake}
+use Rattle.folder_replay.specs.Orders.{Matter, MayTake, HasOnlySeen}
 use Rattle.folder_replay.specs.Turns.{State, AsksInTurn}
+use Rattle.folder_replay.specs.declared.order.End.{End}
+use Rattle.folder_replay.specs.declared.order.End.TheVariants as ends
 use Rattle.folder_replay.specs.declared.order.Task.{Task}
 use Rattle.folder_replay.specs.declared.order.Task.TheVariants as tasks
 use Rattle.folder_replay.specs.declared.request.Answer.{Answer}
 use Rattle.folder_replay.specs.declared.request.Answer.TheVariants as answers
+use Rattle.table_model.specs.declared.refusal.Refusal.TheVariants.{Memory}
 use Rattle.lanes_c.specs.Faults.{nowhere, number_of_fault, place_of_fault}
 use Rattle.lanes_c.specs.Rooms.{Given, Tells}
 use Rattle.lanes_c.specs.declared.fault.Fault.{Fault}
-use Rattle.lanes_c.specs.declared.fault.Fault.TheVariants.{NotOpen}
+use Rattle.lanes_c.specs.declared.fault.Fault.TheVariants as faults
 use Rattle.lanes_c.specs.declared.fault.Place.{Place}
 use Rattle.lanes_c.specs.declared.folder_turns.FolderCall.{FolderCall}
 use Rattle.lanes_c.specs.declared.turn_handle.FolderTurn.{FolderTurn}
@@ -27,6 +35,7 @@ task_of n =
     else if n == 3 then tasks.Replace
     else if n == 4 then tasks.Remove
     else if n == 6 then tasks.KeepAll
+    else if n == 7 then tasks.PutJudged
     else tasks.List
 
 -- the state of a turn that is begun: a part has the name of its bytes
@@ -59,51 +68,106 @@ IsAsked (Read name answer) part call names = (call.kind ≡ 10) × (names ≡ na
 IsAsked Unlocked part call names = call.kind ≡ 11
 IsAsked (Listed answer) part call names = ⊥
 
--- an answer is the one of this number, which has these with it
+-- whether an answer says that the call failed
+abbrev pub SaysFailed : Answer → Type 0
+SaysFailed answers.Failed = Unit {0}
+SaysFailed (answers.FailedBy code) = Unit {0}
+SaysFailed answer = ⊥
+
+-- an answer is the one of this number, which has these with it; 2 and each number past 7 say that the call failed
 pub record Fits (kind number : ℕ) (bytes : List ℕ) (names : List (List ℕ)) (answer : Answer) : Type 0 where
   pub done : kind ≡ 1 → answer ≡ answers.Done
+  pub failed : kind ≡ 2 → SaysFailed answer
   pub taken : kind ≡ 3 → answer ≡ answers.Taken
   pub wrote : kind ≡ 4 → answer ≡ answers.Wrote number
   pub listed : kind ≡ 5 → names_of answer ≡ Some names
   pub missing : kind ≡ 6 → answer ≡ answers.Missing
   pub found : kind ≡ 7 → found_of answer ≡ Some (Some bytes)
+  pub other : 7 < kind → SaysFailed answer
 
 -- What was asked for was told with such an answer.
 abbrev pub HasTold : ℕ → ℕ → List ℕ → State → List Call → Type 0
 HasTold kind number bytes was calls =
     MatchOption was.asked (calls ≡ was.calls) (λ call. (answer : Answer) × Fits kind number bytes was.listed answer × (calls ≡ answered call answer ++ was.calls))
 
--- what the end of a task says of all calls, if the part is on the disk
-abbrev pub SaysOnDisk : Task → Matter → Parts → List Call → Type 0
-SaysOnDisk tasks.Put m parts calls = IsStored parts m.bytes calls
-SaysOnDisk tasks.Keep m parts calls = IsStored parts m.bytes calls
-SaysOnDisk task m parts calls = Unit {0}
+-- the end of a turn is told by this number
+abbrev pub EndsAs : {E : Type 0} → Result End E → ℕ → Type 0
+EndsAs (Ok (ends.Came OnDisk)) n = n ≡ 1
+EndsAs (Ok (ends.Came Unsynced)) n = n ≡ 2
+EndsAs (Ok (ends.Came Gone)) n = n ≡ 3
+EndsAs (Ok (ends.Came Damaged)) n = ⊥
+EndsAs (Ok ends.Overtaken) n = n ≡ 3
+EndsAs (Ok ends.Unseen) n = n ≡ 4
+EndsAs (Ok (ends.Listed names)) n = n ≡ 0
+EndsAs (Ok ends.Kept) n = n ≡ 0
+EndsAs (Err error) n = ⊥
 
--- A turn has come to its end. If that is that the part is on the disk, it is stored.
+-- or by this fault: a part has other bytes, others have had the folder, or the system refused a call
+abbrev pub EndsIn : {E : Type 0} → Result End E → Fault → Type 0
+EndsIn (Ok (ends.Came Damaged)) fault = fault ≡ faults.Damaged
+EndsIn (Ok end) fault = ⊥
+EndsIn (Err error) fault = (fault ≡ faults.Busy) ⊎ ((code : ℕ) × (fault ≡ faults.System code))
+
+-- What an end of this number says of all calls, after those before: a part that is on the disk is stored, and then the others are removed in whose
+-- place it came; parts are kept; and a part that is there, and was to go with all others, was given its name only as a listing gave no
+-- names but those that were seen.
+abbrev pub SaysEnd : Task → Matter → ℕ → Parts → List Call → List Call → Type 0
+SaysEnd tasks.Put m n parts before calls = n ≡ 1 → IsStored parts m.bytes calls
+SaysEnd tasks.Keep m n parts before calls = n ≡ 1 → IsStored parts m.bytes calls
+SaysEnd tasks.Replace m n parts before calls = n ≡ 1 → AreRemoved m.names before calls
+SaysEnd tasks.Remove m n parts before calls = n ≡ 1 → AreRemoved m.names before calls
+SaysEnd tasks.List m n parts before calls = Unit {0}
+SaysEnd tasks.KeepAll m n parts before calls = AreKept parts m.names before calls
+SaysEnd tasks.PutJudged m n parts before calls = (n ≡ 1 → IsStored parts m.bytes calls) × ((n ≡ 1) ⊎ (n ≡ 2) → HasOnlySeen m.names before calls)
+
+-- What an end of this number comes of: a sync that failed; a name of which there was no file, or that a listing lacked; or a listing.
+pub record NumberCause (m : Matter) (n : ℕ) (before calls : List Call) : Type 0 where
+  pub unsynced : n ≡ 2 → HasCall FailsToSync before calls
+  pub gone : n ≡ 3 → HasCall (FindsNone m.name) before calls ⊎ HasCall (Lacks m.names) before calls
+  pub unseen : n ≡ 4 → HasListed before calls
+
+-- What a fault of a turn comes of: a call that failed, or other bytes that were found. System 0 may also be that the calls told are not
+-- those that were asked for, and memory may run out.
+abbrev pub FaultCause : Fault → Matter → List Call → List Call → Type 0
+FaultCause faults.Busy m before calls = HasCall Fails before calls
+FaultCause faults.Damaged m before calls = HasCall (FindsOther m.name m.bytes) before calls
+FaultCause (faults.System code) m before calls = (code ≡ 0) ⊎ HasCall Fails before calls
+FaultCause (faults.Refused refusal) m before calls = refusal ≡ Memory
+FaultCause fault m before calls = ⊥
+
+-- A turn has come to its end, and asks for nothing. Its number says what the end of its task says, and has its cause.
 abbrev pub HasEnded : List Call → State → FolderCall → Type 0
 HasEnded before state call =
-    (call.kind ≡ 0) × ((parts : Parts) → MayTake state.task state.matter parts before → call.number ≡ 1 → SaysOnDisk state.task state.matter parts (state.calls ++ before))
+    (call.kind ≡ 0) × (state.asked ≡ None)
+    × ((parts : Parts) → MayTake state.task state.matter parts before
+    → SaysEnd state.task state.matter call.number parts before (state.calls ++ before) × NumberCause state.matter call.number before (state.calls ++ before))
 
--- What is asked for next is in turn after what was told; or the turn has ended.
+-- What is asked for next is in turn after what was told; or the turn has ended, or is refused, which has its cause.
 abbrev pub GoesOn : List Call → State → FolderCall → Given → Type 0
 GoesOn before state call (Ok names) =
     HasEnded before state call ⊎ (AsksInTurn before state × MatchOption state.asked ⊥ (λ asked. IsAsked asked state.matter.bytes call names))
-GoesOn before state call (Err fault) = Unit {0}
+GoesOn before state call (Err fault) = (parts : Parts) → MayTake state.task state.matter parts before → FaultCause fault state.matter before (state.calls ++ before)
 
 -- The turn is about the same.
 abbrev pub IsAbout : State → State → Type 0
 IsAbout a b = (a.task ≡ b.task) × (a.matter ≡ b.matter)
 
--- The state of a turn after what came of the call that was asked for was told, unless the answer is 0; or it couldn't be told.
+-- the names of a listing that are left once an answer was told: a listing that is told has them all
+abbrev pub names_left : ℕ → List (List ℕ) → List (List ℕ)
+names_left kind names = if kind == 5 then [] else names
+
+-- The state of a turn after an answer. 0 tells nothing. Each other answer is told of the call that was asked for, unless memory ran out before.
 pub record Drives (before : List Call) (kind number : ℕ) (bytes : List ℕ) (was is : State) (call : FolderCall) (given : Given) : Type 0 where
   pub about : IsAbout is was
-  pub told : (is.calls ≡ was.calls) ⊎ HasTold kind number bytes was is.calls
+  pub untold : kind ≡ 0 → is.calls ≡ was.calls
+  pub told : (kind ≡ 0 → ⊥) → HasTold kind number bytes was is.calls ⊎ ((is.calls ≡ was.calls) × (given ≡ Err (faults.Refused Memory)))
+  pub listed : is.listed ≡ names_left kind was.listed
   pub goes : GoesOn before is call given
 
 -- lanes_folder_next: of a closed handle NotOpen is told
 abbrev pub DrivesOpen : List Call → ℕ → ℕ → List ℕ → FolderTurn → FolderTurn → FolderCall → Given → Type 0
 DrivesOpen before kind number bytes old new call given =
-    MatchOption old.state ((given ≡ Err NotOpen) × (new.state ≡ None)) (λ was. MatchOption new.state ⊥ (λ is. Drives before kind number bytes was is call given))
+    MatchOption old.state ((given ≡ Err faults.NotOpen) × (new.state ≡ None)) (λ was. MatchOption new.state ⊥ (λ is. Drives before kind number bytes was is call given))
 
 -- a name is added to those of the order, if nothing was asked for yet, and else to those of the listing
 abbrev pub named_at : Option Call → List ℕ → State → State

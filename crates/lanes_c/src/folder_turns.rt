@@ -1,17 +1,17 @@
 //! The calls that drive a folder of parts: something is begun, and then one call on the folder is asked for after another, and told.
-ghost use Rattle.std.specs.Prelude.{◌≡◌, ◌⊎◌, ◌++◌, [], List, ℕ, Some, None, Ok, Err, IfOk, OnOk, OnErr, MatchOption, MatchResult, length, is_ok};
+ghost use Rattle.std.specs.Prelude.{◌≡◌, ◌⊎◌, ◌++◌, [], List, ℕ, Some, None, Ok, Err, IfOk, OnOk, OnErr, IfErr, MatchOption, MatchResult, length, is_ok};
 ghost use Rattle.std.specs.String.{string_bytes};
 ghost use Rattle.folder_home.specs.PartName.{part_name};
 ghost use Rattle.folder_history.specs.Call.{Call};
-ghost use Rattle.folder_protocol.specs.declared.putting.Outcome.TheVariants.{OnDisk};
 ghost use Rattle.folder_replay.specs.Calls.{call_asked, names_of, found_of};
 ghost use Rattle.folder_replay.specs.Orders.{matter_of};
 ghost use Rattle.folder_replay.specs.Turns.{state_of};
-ghost use Rattle.folder_replay.specs.declared.order.End.TheVariants.{Came};
 ghost use Rattle.folder_replay.specs.declared.request.Answer.TheVariants as answers;
 ghost use Rattle.lanes_c.specs.Calls.{Yields};
-ghost use Rattle.lanes_c.specs.FolderTurns.{Begins, DrivesOpen, Drives, Fits, GoesOn, HasEnded, HasTold, IsAbout, IsAsked, named, state_begun, task_of};
+ghost use Rattle.lanes_c.specs.FolderTurns.{Begins, DrivesOpen, Drives, EndsAs, EndsIn, Fits, GoesOn, HasEnded, HasTold, IsAbout, IsAsked, named, names_left, state_begun, task_of};
 ghost use Rattle.lanes_c.specs.Rooms.{IsFilled, Tells, given_by};
+ghost use Rattle.lanes_c.specs.declared.fault.Fault.TheVariants.{Busy, Refused, System};
+ghost use Rattle.table_model.specs.declared.refusal.Refusal.TheVariants.{Memory};
 
 use crate::fault::{Fault, NOT_OPEN, Place};
 use crate::room::hand_out;
@@ -53,6 +53,7 @@ fn task_of(command: u8) -> Task
         3 => Task::Replace,
         4 => Task::Remove,
         6 => Task::KeepAll,
+        7 => Task::PutJudged,
         _ => Task::List,
     }
 }
@@ -168,6 +169,7 @@ fn answer_of(
     bytes: &[u8],
 ) -> Result<Answer, AllocError>
     ensures fits { IfOk result (λ answer. Fits kind number bytes.now (state_of turn.old).listed answer) }
+    ensures left { (state_of turn.new).listed ≡ names_left kind (state_of turn.old).listed }
     ensures same { ((state_of turn.new).calls ≡ (state_of turn.old).calls) × ((state_of turn.new).asked ≡ (state_of turn.old).asked) × IsAbout (state_of turn.new) (state_of turn.old) }
 {
     Ok(match kind {
@@ -193,7 +195,8 @@ fn answer_of(
 fn tell(alloc: Global, turn: &mut Turn, kind: u8, number: u64, bytes: &[u8]) -> Result<(), Fault>
     ensures about { IsAbout (state_of turn.new) (state_of turn.old) }
     ensures told { OnOk result (HasTold kind number bytes.now (state_of turn.old) (state_of turn.new).calls) }
-    ensures lost { OnErr result ((state_of turn.new).calls ≡ (state_of turn.old).calls) }
+    ensures lost { IfErr result (λ fault. ((state_of turn.new).calls ≡ (state_of turn.old).calls) × (fault ≡ Refused Memory)) }
+    ensures left { (state_of turn.new).listed ≡ names_left kind (state_of turn.old).listed }
 {
     let answer = answer_of(alloc, turn, kind, number, bytes)?;
     Ok(turn.tell(answer)?)
@@ -254,7 +257,9 @@ fn asked_as(alloc: Global, request: &Request) -> Result<Asked, AllocError>
 }
 
 /// A fault of the system, by its error: others have the folder, or a call failed.
-fn fault_of(error: io::Error) -> Fault {
+fn fault_of(error: io::Error) -> Fault
+    ensures { (result ≡ Busy) ⊎ ((code : ℕ) × (result ≡ System code)) }
+{
     match error.raw_os_error() {
         Some(OTHERS_HAVE_IT) => Fault::Busy,
         Some(code) => Fault::System {
@@ -265,14 +270,15 @@ fn fault_of(error: io::Error) -> Fault {
 }
 
 /// What a turn has come to, by its number: 1 is that the part is on the disk, 2 that it is there and could not be synced, 3 that something
-/// is gone, so that the command is to be begun anew.
+/// is gone, and 4 that a part is there that was not seen, so that the command is to be begun anew.
 fn number_of_end(end: io::Result<End>) -> Result<u64, Fault>
-    ensures { IfOk result (λ number. number ≡ 1 → end ≡ Ok (Came OnDisk)) }
+    ensures { MatchResult result (λ number. EndsAs end number) (λ fault. EndsIn end fault) }
 {
     match end {
         Ok(End::Came(Outcome::OnDisk)) => Ok(1),
         Ok(End::Came(Outcome::Unsynced)) => Ok(2),
         Ok(End::Came(Outcome::Gone)) | Ok(End::Overtaken) => Ok(3),
+        Ok(End::Unseen) => Ok(4),
         Ok(End::Came(Outcome::Damaged)) => Err(Fault::Damaged),
         Ok(End::Listed(_)) | Ok(End::Kept) => Ok(0),
         Err(error) => Err(fault_of(error)),
@@ -284,7 +290,9 @@ fn go_on(alloc: Global, turn: &mut Turn) -> Result<Asked, Fault>
     ghost before: { List Call }
     ensures about { IsAbout (state_of turn.new) (state_of turn.old) }
     ensures calls { (state_of turn.new).calls ≡ (state_of turn.old).calls }
-    ensures goes { IfOk result (λ asked. GoesOn before (state_of turn.new) asked.call (Ok asked.names.items)) }
+    ensures left { (state_of turn.new).listed ≡ (state_of turn.old).listed }
+    ensures goes { MatchResult result (λ asked. GoesOn before (state_of turn.new) asked.call (Ok asked.names.items))
+        (λ fault. (call : FolderCall) → GoesOn before (state_of turn.new) call (Err fault)) }
 {
     if let Some(end) = turn.go_on(alloc)? {
         let number = number_of_end(end)?;

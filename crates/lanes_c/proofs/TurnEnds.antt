@@ -1,0 +1,144 @@
+-- What the end of a turn says by its number.
+use Rattle.std.proofs.Common.{◌≡◌, refl, sym, subst, ◌⊎◌, inl, inr, ⊎_elim, ℕ, List, ◌++◌, Option, Some, None, MatchOption, Result, Ok, Err, IfOk, arith}
+use Rattle.folder_history.specs.Call.{Call}
+use Rattle.folder_history.specs.Parts.{Parts}
+use Rattle.folder_history.specs.Turn.{IsStored}
+use Rattle.folder_protocol.specs.Causes.{FailsToSync, FindsNone, HasCall, Lacks}
+use Rattle.folder_protocol.specs.Goes.{AreRemoved}
+use Rattle.folder_protocol.specs.Keeping.{AreKept}
+use Rattle.folder_protocol.specs.Taking.{HasListed}
+use Rattle.folder_protocol.specs.declared.putting.Outcome.{Outcome}
+use Rattle.folder_protocol.specs.declared.putting.Outcome.TheVariants.{OnDisk, Unsynced, Gone, Damaged}
+use Rattle.folder_replay.specs.Orders.{Matter, Caused, Says, HasOnlySeen}
+use Rattle.folder_replay.specs.Turns.{State, EndsSaying}
+use Rattle.folder_replay.specs.declared.order.End.{End}
+use Rattle.folder_replay.specs.declared.order.End.TheVariants as ends
+use Rattle.folder_replay.specs.declared.order.Task.{Task}
+use Rattle.folder_replay.specs.declared.order.Task.TheVariants as tasks
+use Rattle.folder_replay.specs.declared.replay.Fault.{Fault as ReplayFault}
+use Rattle.folder_replay.specs.declared.replay.Fault.TheVariants as replay
+use Rattle.lanes_c.specs.Faults.{told_of_replay}
+use Rattle.lanes_c.specs.FolderTurns.{EndsAs, EndsIn, FaultCause, GoesOn, HasEnded, NumberCause, SaysEnd}
+use Rattle.lanes_c.specs.declared.fault.Fault.{Fault}
+use Rattle.lanes_c.specs.declared.folder_turns.FolderCall.{FolderCall}
+
+-- a number that is neither 1 nor 2
+neither : (P : Type 0) (k n : ℕ) → n ≡ k → (k ≡ 1 → ⊥) → (k ≡ 2 → ⊥) → (n ≡ 1) ⊎ (n ≡ 2) → P
+neither P k n number no_one no_two = ⊎_elim (λ one. absurd (no_one (omega (arith, number, one)))) (λ two. absurd (no_two (omega (arith, number, two))))
+
+module _ {E : Type 0} (P : Type 0) where
+  -- 1 is that the part is on the disk
+  on_disk : (end : Result End E) (n : ℕ) → EndsAs end n → IfOk end (λ e. e ≡ ends.Came OnDisk → P) → n ≡ 1 → P
+  on_disk (Ok (ends.Came OnDisk)) n number said one = said refl
+  on_disk (Ok (ends.Came Unsynced)) n number said one = absurd (omega (arith, number, one))
+  on_disk (Ok (ends.Came Gone)) n number said one = absurd (omega (arith, number, one))
+  on_disk (Ok (ends.Came Damaged)) n number said one = absurd number
+  on_disk (Ok ends.Overtaken) n number said one = absurd (omega (arith, number, one))
+  on_disk (Ok ends.Unseen) n number said one = absurd (omega (arith, number, one))
+  on_disk (Ok (ends.Listed names)) n number said one = absurd (omega (arith, number, one))
+  on_disk (Ok ends.Kept) n number said one = absurd (omega (arith, number, one))
+  on_disk (Err error) n number said one = absurd number
+
+  -- 1 or 2 that it is there
+  there : (end : Result End E) (n : ℕ) → EndsAs end n → IfOk end (λ e. (how : Outcome) → e ≡ ends.Came how → P) → (n ≡ 1) ⊎ (n ≡ 2) → P
+  there (Ok (ends.Came OnDisk)) n number said either = said OnDisk refl
+  there (Ok (ends.Came Unsynced)) n number said either = said Unsynced refl
+  there (Ok (ends.Came Gone)) n number said either = said Gone refl
+  there (Ok (ends.Came Damaged)) n number said either = absurd number
+  there (Ok ends.Overtaken) n number said either = neither P 3 n number (λ e. omega (arith, e)) (λ e. omega (arith, e)) either
+  there (Ok ends.Unseen) n number said either = neither P 4 n number (λ e. omega (arith, e)) (λ e. omega (arith, e)) either
+  there (Ok (ends.Listed names)) n number said either = neither P 0 n number (λ e. omega (arith, e)) (λ e. omega (arith, e)) either
+  there (Ok ends.Kept) n number said either = neither P 0 n number (λ e. omega (arith, e)) (λ e. omega (arith, e)) either
+  there (Err error) n number said either = absurd number
+
+-- the number of an end says what the end does
+ended_says : (E : Type 0) (task : Task) (m : Matter) (end : Result End E) (n : ℕ) (parts : Parts) (before calls : List Call) → EndsAs end n → Says task m end parts before calls → SaysEnd task m n parts before calls
+ended_says E tasks.Put m end n parts before calls number said = on_disk {E = E} (IsStored parts m.bytes calls) end n number said
+ended_says E tasks.Keep m end n parts before calls number said = on_disk {E = E} (IsStored parts m.bytes calls) end n number said
+ended_says E tasks.Replace m end n parts before calls number said = on_disk {E = E} (AreRemoved m.names before calls) end n number said
+ended_says E tasks.Remove m end n parts before calls number said = on_disk {E = E} (AreRemoved m.names before calls) end n number said
+ended_says E tasks.List m end n parts before calls number said = tt
+ended_says E tasks.KeepAll m (Ok end) n parts before calls number said = said
+ended_says E tasks.KeepAll m (Err error) n parts before calls number said = absurd number
+ended_says E tasks.PutJudged m (Ok end) n parts before calls number said =
+    (on_disk {E = E} (IsStored parts m.bytes calls) (Ok end) n number said.0, there {E = E} (HasOnlySeen m.names before calls) (Ok end) n number said.1)
+ended_says E tasks.PutJudged m (Err error) n parts before calls number said = absurd number
+
+module _ {E : Type 0} (m : Matter) (before calls : List Call) where
+  unsynced : (end : Result End E) (n : ℕ) → EndsAs end n → Caused m end before calls → n ≡ 2 → HasCall FailsToSync before calls
+  unsynced (Ok (ends.Came OnDisk)) n number cause two = absurd (omega (arith, number, two))
+  unsynced (Ok (ends.Came Unsynced)) n number cause two = cause
+  unsynced (Ok (ends.Came Gone)) n number cause two = absurd (omega (arith, number, two))
+  unsynced (Ok (ends.Came Damaged)) n number cause two = absurd number
+  unsynced (Ok ends.Overtaken) n number cause two = absurd (omega (arith, number, two))
+  unsynced (Ok ends.Unseen) n number cause two = absurd (omega (arith, number, two))
+  unsynced (Ok (ends.Listed names)) n number cause two = absurd (omega (arith, number, two))
+  unsynced (Ok ends.Kept) n number cause two = absurd (omega (arith, number, two))
+  unsynced (Err error) n number cause two = absurd number
+
+  gone : (end : Result End E) (n : ℕ) → EndsAs end n → Caused m end before calls → n ≡ 3 → HasCall (FindsNone m.name) before calls ⊎ HasCall (Lacks m.names) before calls
+  gone (Ok (ends.Came OnDisk)) n number cause three = absurd (omega (arith, number, three))
+  gone (Ok (ends.Came Unsynced)) n number cause three = absurd (omega (arith, number, three))
+  gone (Ok (ends.Came Gone)) n number cause three = inl cause
+  gone (Ok (ends.Came Damaged)) n number cause three = absurd number
+  gone (Ok ends.Overtaken) n number cause three = inr cause
+  gone (Ok ends.Unseen) n number cause three = absurd (omega (arith, number, three))
+  gone (Ok (ends.Listed names)) n number cause three = absurd (omega (arith, number, three))
+  gone (Ok ends.Kept) n number cause three = absurd (omega (arith, number, three))
+  gone (Err error) n number cause three = absurd number
+
+  unseen : (end : Result End E) (n : ℕ) → EndsAs end n → Caused m end before calls → n ≡ 4 → HasListed before calls
+  unseen (Ok (ends.Came OnDisk)) n number cause four = absurd (omega (arith, number, four))
+  unseen (Ok (ends.Came Unsynced)) n number cause four = absurd (omega (arith, number, four))
+  unseen (Ok (ends.Came Gone)) n number cause four = absurd (omega (arith, number, four))
+  unseen (Ok (ends.Came Damaged)) n number cause four = absurd number
+  unseen (Ok ends.Overtaken) n number cause four = absurd (omega (arith, number, four))
+  unseen (Ok ends.Unseen) n number cause four = cause
+  unseen (Ok (ends.Listed names)) n number cause four = absurd (omega (arith, number, four))
+  unseen (Ok ends.Kept) n number cause four = absurd (omega (arith, number, four))
+  unseen (Err error) n number cause four = absurd number
+
+  -- the number has the end's cause
+  number_caused : (end : Result End E) (n : ℕ) → EndsAs end n → Caused m end before calls → NumberCause m n before calls
+  number_caused end n number cause = record { unsynced = unsynced end n number cause; gone = gone end n number cause; unseen = unseen end n number cause }
+
+  -- and so has the fault
+  fault_caused : (end : Result End E) (fault : Fault) → EndsIn end fault → Caused m end before calls → FaultCause fault m before calls
+  fault_caused (Ok (ends.Came OnDisk)) fault ends_in cause = absurd ends_in
+  fault_caused (Ok (ends.Came Unsynced)) fault ends_in cause = absurd ends_in
+  fault_caused (Ok (ends.Came Gone)) fault ends_in cause = absurd ends_in
+  fault_caused (Ok (ends.Came Damaged)) fault ends_in cause = subst (λ (f : Fault). FaultCause f m before calls) (sym ends_in) cause
+  fault_caused (Ok ends.Overtaken) fault ends_in cause = absurd ends_in
+  fault_caused (Ok ends.Unseen) fault ends_in cause = absurd ends_in
+  fault_caused (Ok (ends.Listed names)) fault ends_in cause = absurd ends_in
+  fault_caused (Ok ends.Kept) fault ends_in cause = absurd ends_in
+  fault_caused (Err error) fault (inl busy) cause = subst (λ (f : Fault). FaultCause f m before calls) (sym busy) cause
+  fault_caused (Err error) fault (inr (code, system)) cause = subst (λ (f : Fault). FaultCause f m before calls) (sym system) (inr cause)
+
+-- a turn has ended as its order
+pub has_ended : {E : Type 0} (before : List Call) (state : State) (call : FolderCall) (end : Result End E) (n : ℕ) → call.kind ≡ 0 → call.number ≡ n → state.asked ≡ None → EndsAs end n
+    → EndsSaying before state end → HasEnded before state call
+has_ended {E} before state call end n ended told none number says = let ends_as = subst (λ (k : ℕ). EndsAs end k) (sym told) number in (
+  ended,
+  none,
+  λ parts may. (
+    ended_says E state.task state.matter end call.number parts before (state.calls ++ before) ends_as (says parts may).0,
+    number_caused state.matter before (state.calls ++ before) end call.number ends_as (says parts may).1,
+  ),
+)
+
+-- or is refused as it
+pub is_refused : {E : Type 0} (before : List Call) (state : State) (call : FolderCall) (end : Result End E) (fault : Fault) → EndsIn end fault → EndsSaying before state end → GoesOn before state call (Err fault)
+is_refused before state call end fault ends_in says = λ parts may. fault_caused state.matter before (state.calls ++ before) end fault ends_in (says parts may).1
+
+-- a fault of the replay is none of the folder
+pub strays : (before : List Call) (state : State) (call : FolderCall) (came : ReplayFault) (fault : Fault) → fault ≡ told_of_replay came → GoesOn before state call (Err fault)
+strays before state call came fault is = λ parts may. subst (λ (f : Fault). FaultCause f state.matter before (state.calls ++ before)) (sym is) (caused came)
+  where
+    caused : (other : ReplayFault) → FaultCause (told_of_replay other) state.matter before (state.calls ++ before)
+    caused replay.OutOfMemory = refl
+    caused replay.Strayed = inl refl
+
+-- what is said of the end that came is said of it
+pub said_of : {E : Type 0} (P : Result End E → Type 0) (came : Option (Result End E)) (end : Result End E) → came ≡ Some end → MatchOption came (Unit {0}) P → P end
+said_of {E} P came end is said = subst (λ (o : Option (Result End E)). MatchOption o (Unit {0}) P) is said
