@@ -1,0 +1,3 @@
+pub mod Joined
+pub mod Wanted
+pub mod Replacing

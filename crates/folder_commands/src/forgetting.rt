@@ -1,0 +1,92 @@
+//! A forget: the parts of a folder are read and joined, and what is left of them without dead batches is put in their place.
+ghost use Rattle.std.specs.Prelude.{◌≡◌, ◌==◌, not, true, Ok, List, ℕ, map, string_bytes, IfOk, IfSome, option_map};
+ghost use Rattle.folder_history.specs.Parts.{IsNoPart};
+ghost use Rattle.folder_protocol.specs.Goes.{GoesInTurn};
+ghost use Rattle.replica_store.specs.Replica.{Replica};
+ghost use Rattle.replica_reading.specs.Held.{held_in};
+ghost use Rattle.replica_commands.specs.Commands.{file_of, as_held};
+ghost use Rattle.replica_commands.specs.Forgetting.{forgetting};
+ghost use Rattle.folder_home.specs.Covers.{folder_parts};
+ghost use Rattle.folder_commands.specs.Replacing.{IsForgot};
+
+use crate::reading::{read_folder, refused};
+use crate::replacing::{Replaced, replace_read};
+use folder_home::{PartRefusal, part_of_forget};
+use folder_protocol::{Folder, Untaken};
+use replica_store::{Forgotten, Store};
+use std::alloc::Global;
+use table_model::{Counted, Refusal};
+
+/// What a forget of a folder came to.
+#[derive(Drop)]
+pub struct Forgot {
+    /// How many batches are dropped, and how many rows they have.
+    pub dropped: Forgotten,
+    /// The names that the folder had.
+    pub names: Vec<String>,
+    /// What came of the part that is put. None if no batch is dropped: then nothing is put.
+    pub replaced: Option<Replaced>,
+}
+
+/// How much a forget drops of a store, which is let go; and the file of what is left, if that is anything.
+fn left_of(alloc: Global, held: Store) -> Result<(Forgotten, Vec<u8>), Refusal>
+    ensures { IfOk result (λ both. (left : Replica) × (forgetting held.replica ≡ Ok ((both.0.batches, both.0.rows), left)) × (not (both.0.batches == 0) ≡ true → (both.1.items ≡ file_of left) × (held_in (file_of left) ≡ Ok (as_held left)))) }
+{
+    let mut store = held;
+    let mut writer = Counted::new(Vec::new(alloc));
+    match part_of_forget(alloc, &mut store, &mut writer) {
+        Ok(done) => Ok((done, writer.into_inner())),
+        Err(_) => Err(Refusal::Memory),
+    }
+}
+
+/// Forgets in a folder: its parts are read and joined, and what is left of them without the batches of which every row is deleted is put
+/// in their place, by a temporary of a new name. If there is no such batch, nothing is put. None if the folder has no part. Some names
+/// may be passed over.
+pub fn forget<F: Folder>(
+    alloc: Global,
+    folder: &mut F,
+    temporary: &str,
+    passed: &[String],
+) -> Result<Option<Forgot>, Untaken<PartRefusal>>
+    // Each call is in turn, whatever the folder answers.
+    ensures in_turn { IsNoPart folder_parts temporary.now → GoesInTurn folder_parts (F.history folder.old) (F.history folder.new) }
+    // What is put is what a forget leaves of the parts that were read, and these are removed.
+    ensures forgot { IfOk result (λ answer. IfSome answer (λ f. IsForgot (map string_bytes passed.now) (map string_bytes f.names.items) (f.dropped.batches, f.dropped.rows) (option_map (λ done. (string_bytes done.name, map string_bytes done.gone.items, done.outcome)) f.replaced) (F.history folder.old) (F.history folder.new))) }
+{
+    let read = match read_folder(alloc, folder, passed) {
+        Ok(read) => read,
+        Err(fault) => return Err(fault),
+    };
+    let names = read.names;
+    let store = match read.held {
+        Some(store) => store,
+        None => return Ok(None),
+    };
+    let (dropped, bytes) = match left_of(alloc, store) {
+        Ok(both) => both,
+        Err(refusal) => return Err(refused(refusal)),
+    };
+    if dropped.batches == 0 {
+        return Ok(Some(Forgot {
+            dropped,
+            names,
+            replaced: None,
+        }));
+    }
+    match replace_read(
+        alloc,
+        folder,
+        temporary,
+        passed,
+        names.as_slice(),
+        bytes.as_slice(),
+    ) {
+        Ok(done) => Ok(Some(Forgot {
+            dropped,
+            names,
+            replaced: Some(done),
+        })),
+        Err(fault) => Err(fault),
+    }
+}

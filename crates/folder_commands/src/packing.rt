@@ -1,0 +1,57 @@
+//! A pack: parts are read and joined, and their join is put in their place.
+ghost use Rattle.std.specs.Prelude.{◌≡◌, Ok, map, string_bytes, IfOk, IfSome};
+ghost use Rattle.folder_history.specs.Parts.{IsNoPart};
+ghost use Rattle.folder_protocol.specs.Goes.{GoesInTurn};
+ghost use Rattle.replica_reading.specs.Held.{held_in};
+ghost use Rattle.replica_commands.specs.Commands.{file_of, as_held};
+ghost use Rattle.folder_home.specs.Covers.{folder_parts};
+ghost use Rattle.folder_commands.specs.Replacing.{Packs};
+
+use crate::reading::{read_named, refused};
+use crate::replacing::{Replaced, replace_read};
+use folder_home::PartRefusal;
+use folder_protocol::{Folder, Untaken};
+use replica_commands::write_changed;
+use replica_store::Store;
+use std::alloc::Global;
+use table_model::{Counted, Refusal};
+
+/// The file of what a store holds, which is let go.
+fn file_of(alloc: Global, store: Store) -> Result<Vec<u8>, Refusal>
+    ensures file { IfOk result (λ bytes. bytes.items ≡ file_of store.replica) }
+    ensures read { IfOk result (λ bytes. held_in (file_of store.replica) ≡ Ok (as_held store.replica)) }
+{
+    let mut writer = Counted::new(Vec::new(alloc));
+    match write_changed(alloc, &store, true, &mut writer) {
+        Ok(()) => Ok(writer.into_inner()),
+        Err(_) => Err(Refusal::Memory),
+    }
+}
+
+/// Packs the parts of these names: they are read and joined, and the part that has what all of them hold is put in their place, by a
+/// temporary of a new name. None if none of the names is a part's.
+pub fn pack<F: Folder>(
+    alloc: Global,
+    folder: &mut F,
+    temporary: &str,
+    names: &[String],
+) -> Result<Option<Replaced>, Untaken<PartRefusal>>
+    // Each call is in turn, whatever the folder answers.
+    ensures in_turn { IsNoPart folder_parts temporary.now → GoesInTurn folder_parts (F.history folder.old) (F.history folder.new) }
+    // What is put is what the parts hold that were read, and these are removed.
+    ensures packed { IfOk result (λ answer. IfSome answer (λ done. Packs (map string_bytes names.now) (string_bytes done.name) (map string_bytes done.gone.items) done.outcome (F.history folder.old) (F.history folder.new))) }
+{
+    let store = match read_named(alloc, folder, &[], names) {
+        Ok(Some(store)) => store,
+        Ok(None) => return Ok(None),
+        Err(fault) => return Err(fault),
+    };
+    let bytes = match file_of(alloc, store) {
+        Ok(bytes) => bytes,
+        Err(refusal) => return Err(refused(refusal)),
+    };
+    match replace_read(alloc, folder, temporary, &[], names, bytes.as_slice()) {
+        Ok(done) => Ok(Some(done)),
+        Err(fault) => Err(fault),
+    }
+}
