@@ -95,7 +95,7 @@ impl Parts {
     /// The parts of a folder, listed under its shared lock. There is at least one. A folder is not a part, even if named like one; that
     /// is looked at only if it is asked for.
     pub fn listed<R: Host>(rt: &R, folder: &str, is_careful: bool) -> Result<Parts, Failure> {
-        let mut system = ToldFolder::open(rt, folder, None)?;
+        let mut system = ToldFolder::open(&*rt, &*folder, None)?;
         Parts::listed_in(rt, folder, &mut system, is_careful)
     }
 

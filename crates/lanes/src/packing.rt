@@ -118,7 +118,7 @@ fn sized_parts<R: Host>(
 /// Joins the parts that are to be joined next into one, and removes them: they are listed, read and replaced by the calls of the
 /// protocol on one folder.
 fn pack_once<R: Host>(rt: &R, folder: &str, is_all: bool) -> Result<Round, Failure> {
-    let mut system = ToldFolder::open(rt, folder, None)?;
+    let mut system = ToldFolder::open(&*rt, &*folder, None)?;
     let chosen = chosen_parts(rt, folder, &mut system, is_all)?;
     if chosen.len() < 2 {
         return Ok(Round::Idle);
