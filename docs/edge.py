@@ -31,8 +31,8 @@ CHANGING = {
 }
 # Calls that change nothing. What is read of a part is compared with its name before it counts.
 LOOKING = {
-    "lanes/src/parts.rt": (1, "it reads the parts of a folder one after another, each in pieces: a read is in turn at any time"),
-    "lanes/src/folders.rt": (1, "it reads the heads of parts: a read is in turn at any time"),
+    "lanes/src/parts.rt": (1, "it reads parts for a named load, which skims them, and compares one with its name: a read is in turn at any time"),
+    "lanes/src/folders.rt": (1, "it reads the heads of parts, for loads and `delete-rows`: a read is in turn at any time"),
     "lanes/src/checked_part.rt": (1, "it reads a file that is named as a part, which is an input"),
     "lanes/src/packing.rt": (2, "it asks for the sizes of parts, by which a pack chooses them, and if its operand is a file"),
     "lanes/src/home.rt": (2, "it asks if an operand is a folder, and if its name is free"),

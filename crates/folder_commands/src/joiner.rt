@@ -1,5 +1,6 @@
 //! What joins the parts of a folder as they are read.
-ghost use Rattle.std.specs.Prelude.{◌≡◌, [], false, map, string_bytes, IfOk, option_map};
+ghost use Rattle.std.specs.Prelude.{◌≡◌, [], false, map, string_bytes, IfOk, IfSome, option_map};
+ghost use Rattle.column_file.specs.Files.{AreCanonicalOf};
 ghost use Rattle.folder_home.specs.PartName.{part_name};
 ghost use Rattle.folder_commands.specs.Joined.{IsJoinOf};
 ghost use Rattle.folder_commands.specs.Wanted.{is_wanted};
@@ -35,7 +36,9 @@ impl<'a> Joiner<'a> {
 
     /// What all of them hold together, if there is one. `Memory` is answered if there is no memory for it.
     pub fn into_store(self, alloc: Global) -> Result<Option<Store>, Refusal>
-        ensures { IfOk result (λ answer. IsJoinOf (option_map (λ store. store.replica) answer) self.entry.taken.1) }
+        ensures join { IfOk result (λ answer. IsJoinOf (option_map (λ store. store.replica) answer) self.entry.taken.1) }
+        // Its segments are canonical.
+        ensures segments { IfOk result (λ answer. IfSome answer (λ store. AreCanonicalOf store.replica.schema store.replica.state.batches store.segments)) }
     {
         let Joiner { taken, .. } = self;
         taken.into_store(alloc)

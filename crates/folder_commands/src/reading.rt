@@ -1,5 +1,6 @@
 //! The parts of a folder, read and joined.
-ghost use Rattle.std.specs.Prelude.{◌≡◌, List, ℕ, [], map, string_bytes, IfOk, IfErr, OnOk, option_map};
+ghost use Rattle.std.specs.Prelude.{◌≡◌, List, ℕ, [], map, string_bytes, IfOk, IfErr, IfSome, OnOk, option_map};
+ghost use Rattle.column_file.specs.Files.{AreCanonicalOf};
 ghost use Rattle.folder_history.specs.Turn.{Gave, listing_of, HasReadAll};
 ghost use Rattle.folder_protocol.specs.Goes.{GoesInTurn};
 ghost use Rattle.folder_protocol.specs.Taking.{UntakenCause};
@@ -35,6 +36,8 @@ pub fn read_named<F: Folder>(
     ensures in_turn { GoesInTurn folder_parts (F.history folder.old) (F.history folder.new) }
     // Each part was read by these calls, and what is answered is their join.
     ensures read { IfOk result (λ answer. IsReadAs (map string_bytes passed.now) (map string_bytes names.now) (option_map (λ store. store.replica) answer) (F.history folder.new)) }
+    // Its segments are canonical.
+    ensures segments { IfOk result (λ answer. IfSome answer (λ store. AreCanonicalOf store.replica.schema store.replica.state.batches store.segments)) }
     // The last listing is as it was.
     ensures listing { OnOk result (listing_of (F.history folder.new) ≡ listing_of (F.history folder.old)) }
     // If it gave these names and none is to be passed over, all that it gave was read.
@@ -73,6 +76,8 @@ pub fn read_folder<F: Folder>(
     ensures listed { IfOk result (λ read. listing_of (F.history folder.new) ≡ Gave (map string_bytes read.names.items)) }
     // Each part was read by these calls, and what is answered is their join.
     ensures read { IfOk result (λ read. IsReadAs (map string_bytes passed.now) (map string_bytes read.names.items) (option_map (λ store. store.replica) read.held) (F.history folder.new)) }
+    // Its segments are canonical.
+    ensures segments { IfOk result (λ read. IfSome read.held (λ store. AreCanonicalOf store.replica.schema store.replica.state.batches store.segments)) }
     // If no name was passed over, all that a listing under the lock gave was read.
     ensures all { map string_bytes passed.now ≡ [] → OnOk result (HasReadAll folder_parts (F.history folder.new)) }
     // That they were not all read has its cause.

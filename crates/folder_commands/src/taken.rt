@@ -1,5 +1,6 @@
 //! The parts that were taken of a folder, and their join.
-ghost use Rattle.std.specs.Prelude.{◌≡◌, [], ◌∷◌, None, Some, List, ℕ, IfOk, IfErr, OnOk, option_map};
+ghost use Rattle.std.specs.Prelude.{◌≡◌, [], ◌∷◌, None, Some, List, ℕ, IfOk, IfErr, IfSome, OnOk, option_map};
+ghost use Rattle.column_file.specs.Files.{AreCanonicalOf};
 ghost use Rattle.folder_protocol.specs.Note.{calls_of};
 ghost use Rattle.folder_protocol.specs.Taking.{bytes_read};
 ghost use Rattle.folder_home.specs.PartName.{part_name};
@@ -81,7 +82,9 @@ impl Taken {
 
     /// What all of them hold together, if there is one. `Memory` is answered if there is no memory for it.
     pub fn into_store(self, alloc: Global) -> Result<Option<Store>, Refusal>
-        ensures { IfOk result (λ answer. IsJoinOf (option_map (λ store. store.replica) answer) self.1) }
+        ensures join { IfOk result (λ answer. IsJoinOf (option_map (λ store. store.replica) answer) self.1) }
+        // Its segments are canonical.
+        ensures segments { IfOk result (λ answer. IfSome answer (λ store. AreCanonicalOf store.replica.schema store.replica.state.batches store.segments)) }
     {
         let Taken { join, .. } = self;
         match join {

@@ -1,4 +1,5 @@
 //! Folders of parts, as commands read them: they are listed under a lock, and read part by part.
+ghost use Rattle.column_file.specs.Files.{AreCanonicalOf};
 
 use crate::beginning::Beginning;
 use crate::failure::Failure;
@@ -7,21 +8,20 @@ use crate::heads::{Headed, Heads};
 use crate::home::is_folder;
 use crate::host::Host;
 use crate::looks::Looks;
-use crate::part_failures::{HeadedPart, Unread, busy, of_folder, path_at, unread_for, why_unread};
+use crate::part_failures::{HeadedPart, Unread, busy, path_at, unread_for};
 use crate::parts::{Opening, PartFile, Untold};
-use crate::progress::{PartCount, Progress, ToldOpening};
-use folder_home::{
-    HEAD_BYTES, Head, Part, PartFault, PartRefusal, compare_part, is_part_name, join_parts,
-    open_parts, part_head,
-};
+use crate::progress::Progress;
+use crate::told_folder::ToldFolder;
+use folder_commands::{Read, read_folder};
+use folder_home::{HEAD_BYTES, Head, Part, PartFault, compare_part, is_part_name, part_head};
 use folder_protocol::list_names;
-use part_folder::{FolderFault, SystemFolder, is_link, path_in};
+use part_folder::{SystemFolder, is_link, path_in};
 use refusal_sentences::CommandRefusal;
 use replica_reading::OpenFile;
 use replica_store::Store;
 use std::alloc::{AllocError, Global};
 use std::fs::{self, File, Files};
-use std::io::{self, ErrorKind, Read};
+use std::io::{self, ErrorKind};
 use table_model::{Counted, Refusal, Schema};
 
 /// The parts of a folder at one look, by their names and their paths in ascending order, and how many other names it has.
@@ -40,34 +40,21 @@ pub struct Opened<H> {
 }
 
 /// What parts are opened as: a file that is asked, or a store that is changed.
-pub trait Opens {
-    /// What some parts hold, which are read in this order.
-    fn from_parts<R: Read>(
-        alloc: Global,
-        first: &mut Part<R>,
-        others: &mut [Part<R>],
-    ) -> Result<Self, PartRefusal>
-    where
-        Self: Sized;
+pub trait Opens: Sized {
+    /// What a store holds whose segments are canonical.
+    fn from_store(store: Store) -> Self
+        requires { AreCanonicalOf store.replica.schema store.replica.state.batches store.segments };
 }
 
 impl Opens for OpenFile {
-    fn from_parts<R: Read>(
-        alloc: Global,
-        first: &mut Part<R>,
-        others: &mut [Part<R>],
-    ) -> Result<OpenFile, PartRefusal> {
-        open_parts(alloc, first, others)
+    fn from_store(store: Store) -> OpenFile {
+        OpenFile::from_store(store)
     }
 }
 
 impl Opens for Store {
-    fn from_parts<R: Read>(
-        alloc: Global,
-        first: &mut Part<R>,
-        others: &mut [Part<R>],
-    ) -> Result<Store, PartRefusal> {
-        join_parts(alloc, first, others)
+    fn from_store(store: Store) -> Store {
+        store
     }
 }
 
@@ -80,39 +67,55 @@ pub struct PartHeads {
 }
 
 impl Parts {
-    /// The parts among the names in a folder, with so many more that are not UTF-8. A folder is not a part, even if named like one; that is looked at only if it is asked for.
-    fn among<R: Files + AllocGlobal>(
-        rt: &R,
+    /// The parts among the names in a folder, which has so many more that are not UTF-8. These names are those of folders, which are no
+    /// parts.
+    pub fn among(
+        alloc: Global,
         folder: &str,
-        listing: (Vec<String>, usize),
-        is_careful: bool,
+        names: Vec<String>,
+        unreadable: usize,
+        folders: &[String],
     ) -> Result<Parts, AllocError> {
-        let mut names = Vec::new(rt.alloc());
-        let mut paths = Vec::new(rt.alloc());
-        let (listed, mut others) = listing;
-        for name in listed {
-            let path = path_in(rt.alloc(), folder, name.as_str())?;
-            if is_part_name(name.as_str()) && !(is_careful && is_folder(rt, path.as_str())) {
-                names.push(name)?;
-                paths.push(path)?;
+        let mut parts = Parts {
+            names: Vec::new(alloc),
+            paths: Vec::new(alloc),
+            others: unreadable,
+        };
+        for name in names {
+            if is_part_name(name.as_str()) && !folders.contains(&name) {
+                parts.paths.push(path_in(alloc, folder, name.as_str())?)?;
+                parts.names.push(name)?;
             } else {
-                others = others.saturating_add(1);
+                parts.others = parts.others.saturating_add(1);
             }
         }
-        Ok(Parts {
-            names,
-            paths,
-            others,
-        })
+        Ok(parts)
     }
 
-    /// The parts of a folder, listed under its shared lock. There is at least one.
+    /// The parts of a folder, listed under its shared lock. There is at least one. A folder is not a part, even if named like one; that
+    /// is looked at only if it is asked for.
     pub fn listed<R: Host>(rt: &R, folder: &str, is_careful: bool) -> Result<Parts, Failure> {
-        let parts = Parts::among(rt, folder, names_in(rt, folder)?, is_careful)?;
+        let mut system = ToldFolder::open(&*rt, &*folder, None)?;
+        Parts::listed_in(rt, folder, &mut system, is_careful)
+    }
+
+    /// The same of a folder that is open.
+    pub fn listed_in<R: Host>(
+        rt: &R,
+        folder: &str,
+        system: &mut SystemRound<'_, R>,
+        is_careful: bool,
+    ) -> Result<Parts, Failure> {
+        let names = names_in(rt.alloc(), system)?;
+        let folders = if is_careful {
+            folders_among(rt, folder, names.as_slice())?
+        } else {
+            Vec::new(rt.alloc())
+        };
+        let unreadable = system.unreadable();
+        let parts = Parts::among(rt.alloc(), folder, names, unreadable, folders.as_slice())?;
         if parts.names.as_slice().is_empty() {
-            let refusal = CommandRefusal::from(Refusal::ReadFault);
-            let words = "this folder holds no part";
-            return Err(Failure::advised(rt.alloc(), refusal, folder, words));
+            return Err(no_part(rt.alloc(), folder));
         }
         Ok(parts)
     }
@@ -127,9 +130,9 @@ impl Parts {
         self.paths.as_slice()
     }
 
-    /// The paths.
-    pub fn into_paths(self) -> Vec<String> {
-        self.paths
+    /// The names, in ascending order.
+    pub fn into_names(self) -> Vec<String> {
+        self.names
     }
 
     /// How many parts there are.
@@ -143,19 +146,56 @@ impl Parts {
     }
 }
 
-/// The names in a folder, listed under its shared lock, and how many more there are that are not UTF-8.
-fn names_in<R: Host>(rt: &R, folder: &str) -> Result<(Vec<String>, usize), Failure> {
-    let mut system = match SystemFolder::open(rt, folder) {
-        Ok(system) => system,
-        Err(error) => return Err(of_folder(rt.alloc(), folder, FolderFault::from(error))),
-    };
-    match list_names(rt.alloc(), &mut system) {
-        Ok(names) => Ok((names, system.unreadable())),
-        Err(error) => {
-            let fault = system.fault().unwrap_or(FolderFault::from(error));
-            Err(of_folder(rt.alloc(), folder, fault))
+/// A folder of the system, as a round of a command reads it.
+pub type SystemRound<'r, R> = ToldFolder<'r, R, SystemFolder<'r, R>>;
+
+/// The refusal of a folder that has no part.
+pub fn no_part(alloc: Global, folder: &str) -> Failure {
+    let refusal = CommandRefusal::from(Refusal::ReadFault);
+    Failure::advised(alloc, refusal, folder, "this folder holds no part")
+}
+
+/// The names in a folder, listed under its shared lock.
+fn names_in<R: Host>(
+    alloc: Global,
+    system: &mut SystemRound<'_, R>,
+) -> Result<Vec<String>, Failure> {
+    match list_names(alloc, system) {
+        Ok(names) => Ok(names),
+        Err(error) => Err(system.unlisted(error)),
+    }
+}
+
+/// Those of these names of a folder that parts have and that are those of folders.
+fn folders_among<R: Files + AllocGlobal>(
+    rt: &R,
+    folder: &str,
+    names: &[String],
+) -> Result<Vec<String>, AllocError> {
+    let mut folders = Vec::new(rt.alloc());
+    for name in names {
+        let path = path_in(rt.alloc(), folder, name.as_str())?;
+        if is_part_name(name.as_str()) && is_folder(rt, path.as_str()) {
+            folders.push(String::from_str(rt.alloc(), name.as_str())?)?;
         }
     }
+    Ok(folders)
+}
+
+/// The names that are to be passed over in a round, since they are those of folders: that is looked at only if it is asked for.
+pub fn passed_in<R: Host>(
+    rt: &R,
+    folder: &str,
+    system: &mut SystemRound<'_, R>,
+    is_careful: bool,
+) -> Result<Vec<String>, Failure> {
+    if !is_careful {
+        return Ok(Vec::new(rt.alloc()));
+    }
+    let names = names_in(rt.alloc(), system)?;
+    let folders = folders_among(rt, folder, names.as_slice())?;
+    system.pass_over(folders.len());
+    Ok(folders)
 }
 
 /// The part of a name, which has this path; what is told when it is opened, and what its head comes to.
@@ -195,7 +235,7 @@ pub fn last_of(path: &str) -> &str {
     }
 }
 
-/// What all parts of a folder hold. It says at a terminal how many of them were opened.
+/// What all parts of a folder hold. It says at a terminal how many of them were begun.
 pub fn open_folder<H: Opens, R: Host>(
     rt: &R,
     progress: &Progress<'_, R>,
@@ -203,12 +243,10 @@ pub fn open_folder<H: Opens, R: Host>(
 ) -> Result<Opened<H>, Failure> {
     let mut looks = Looks::new(rt);
     for _ in 0..u64::MAX {
-        let parts = Parts::listed(rt, folder, looks.is_careful())?;
-        let count = PartCount::new(&*progress, &*folder, parts.count());
-        let outcome = open_paths(rt, parts.paths(), ToldOpening::new(&count));
+        let outcome = open_once(rt, &*progress, &*folder, looks.is_careful());
         progress.clear();
         match outcome {
-            Ok(held) => return Ok(Opened { held, parts }),
+            Ok(opened) => return Ok(opened),
             Err(why) => {
                 if !looks.again(rt, why)? {
                     break;
@@ -219,22 +257,28 @@ pub fn open_folder<H: Opens, R: Host>(
     Err(busy(rt.alloc(), folder))
 }
 
-/// What the parts of these paths hold, of which there is at least one; what is told when each is opened.
-fn open_paths<H: Opens, R: Files + AllocGlobal, O: Opening + Drop>(
-    rt: &R,
-    paths: &[String],
-    opening: O,
-) -> Result<H, Unread> {
-    let heads = Heads::new(rt.alloc());
-    let mut readers = parts_of(rt, paths, opening, &heads)?;
-    let opened = match readers.as_mut_slice().split_first_mut() {
-        Some((first, others)) => H::from_parts(rt.alloc(), first, others),
-        None => return Err(Unread::Gone),
+/// The same by one look at its parts.
+fn open_once<'r, H: Opens, R: Host>(
+    rt: &'r R,
+    progress: &'r Progress<'r, R>,
+    folder: &'r str,
+    is_careful: bool,
+) -> Result<Opened<H>, Unread> {
+    let mut system = ToldFolder::open(rt, folder, Some(progress))?;
+    let passed = passed_in(rt, folder, &mut system, is_careful)?;
+    let passed = passed.as_slice();
+    let Read { names, held } = match read_folder(rt.alloc(), &mut system, passed) {
+        Ok(read) => read,
+        Err(fault) => return Err(system.why(fault)),
     };
-    match opened {
-        Ok(held) => Ok(held),
-        Err(refusal) => Err(why_unread(rt, paths, readers, refusal, &heads)),
-    }
+    let Some(store) = held else {
+        return Err(Unread::Refused(no_part(rt.alloc(), folder)));
+    };
+    let parts = Parts::among(rt.alloc(), folder, names, system.unreadable(), passed)?;
+    Ok(Opened {
+        held: H::from_store(store),
+        parts,
+    })
 }
 
 /// What the heads of a folder's parts say. The smallest part's bytes are compared with its name.

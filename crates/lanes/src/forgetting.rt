@@ -2,19 +2,18 @@
 
 use crate::change::{Done, Reply};
 use crate::failure::Failure;
-use crate::folders::{Opened, open_folder};
+use crate::folders::{Parts, SystemRound, no_part, passed_in};
 use crate::host::Host;
-use crate::part_failures::busy;
+use crate::looks::Looks;
+use crate::part_failures::{Unread, busy};
 use crate::progress::Progress;
-use crate::putting::{keep_all, unmade};
-use crate::replacing::{Round, replace};
+use crate::putting::{keep_in, new_temporary};
+use crate::replacing::{Round, round_of};
+use crate::told_folder::ToldFolder;
 use file_home::Left;
 use file_replacing::Replaced;
-use folder_home::part_of_forget;
-use patience::Patience;
-use replica_store::{Forgotten, Store};
-use std::alloc::Global;
-use table_model::{Counted, Refusal};
+use folder_commands::{Forgot, forget};
+use replica_store::Forgotten;
 
 /// Drops the batches of a folder of which every row is deleted. If a pack or another forget was there meanwhile, the parts are read
 /// anew, until ten seconds are over.
@@ -23,42 +22,63 @@ pub fn forget_folder<R: Host>(
     progress: &Progress<'_, R>,
     folder: &str,
 ) -> Result<Done, Failure> {
-    let mut patience = Patience::new(rt);
+    let mut looks = Looks::new(rt);
     for _ in 0..u64::MAX {
-        if let Some((done, left)) = forget_once(rt, progress, folder)? {
-            return Ok(Done::new(Reply::Forgotten(done), left));
-        }
-        if !patience.wait(rt) {
-            break;
+        let outcome = forget_once(rt, &*progress, &*folder, looks.is_careful());
+        progress.clear();
+        match outcome {
+            Ok((done, left)) => return Ok(Done::new(Reply::Forgotten(done), left)),
+            Err(why) => {
+                if !looks.again(rt, why)? {
+                    break;
+                }
+            }
         }
     }
     Err(busy(rt.alloc(), folder))
 }
 
-/// Drops the batches that are dead in what all parts hold, and says how the folder is left. If there are none, nothing is put or
-/// removed. None if a pack or another forget was there.
-fn forget_once<R: Host>(
-    rt: &R,
-    progress: &Progress<'_, R>,
-    folder: &str,
-) -> Result<Option<(Forgotten, Left)>, Failure> {
-    let Opened { held, parts } = open_folder(rt, progress, folder)?;
-    let (done, bytes) = match forgotten(rt.alloc(), held) {
-        Ok(made) => made,
-        Err(refusal) => return Err(unmade(rt, folder, refusal)),
+/// Drops the batches that are dead in what all parts hold, and says how the folder is left: it is listed, read and changed by the calls
+/// of the protocol on one folder. If no batch is dead, nothing is put or removed.
+fn forget_once<'r, R: Host>(
+    rt: &'r R,
+    progress: &'r Progress<'r, R>,
+    folder: &'r str,
+    is_careful: bool,
+) -> Result<(Forgotten, Left), Unread> {
+    let mut system = ToldFolder::open(rt, folder, Some(progress))?;
+    let passed = passed_in(rt, folder, &mut system, is_careful)?;
+    let passed = passed.as_slice();
+    let temporary = new_temporary(rt, folder)?;
+    let forgot = match forget(rt.alloc(), &mut system, temporary.as_str(), passed) {
+        Ok(Some(forgot)) => forgot,
+        Ok(None) => return Err(Unread::Refused(no_part(rt.alloc(), folder))),
+        Err(fault) => return Err(system.why(fault)),
     };
-    if done.batches == 0 {
-        return Ok(Some((done, keep_all(rt, folder, &parts))));
-    }
-    match replace(rt, folder, parts.paths(), bytes.as_slice())? {
-        Round::Replaced(_) => Ok(Some((done, Left::Changed(Replaced::Synced)))),
-        Round::Overtaken => Ok(None),
+    let Forgot {
+        dropped,
+        names,
+        replaced,
+    } = forgot;
+    let Some(done) = replaced else {
+        return Ok((dropped, kept(rt, folder, system, names, passed)?));
+    };
+    match round_of(rt, folder, done)? {
+        Round::Replaced(_) => Ok((dropped, Left::Changed(Replaced::Synced))),
+        Round::Overtaken | Round::Idle => Err(Unread::Gone),
     }
 }
 
-/// How much a forget drops of a store, which is let go, and the part that it puts in the place of those that the store is the join of.
-fn forgotten(alloc: Global, mut held: Store) -> Result<(Forgotten, Vec<u8>), Refusal> {
-    let mut writer = Counted::new(Vec::new(alloc));
-    let done = part_of_forget(alloc, &mut held, &mut writer)?;
-    Ok((done, writer.into_inner()))
+/// How a folder is left in which nothing is dropped: its parts are those of these names that are not passed over.
+fn kept<R: Host>(
+    rt: &R,
+    folder: &str,
+    system: SystemRound<'_, R>,
+    names: Vec<String>,
+    passed: &[String],
+) -> Result<Left, Failure> {
+    let unreadable = system.unreadable();
+    let parts = Parts::among(rt.alloc(), folder, names, unreadable, passed)?;
+    let mut system = system.into_inner();
+    Ok(keep_in(rt.alloc(), &mut system, parts.names()))
 }

@@ -33,8 +33,9 @@ pub fn put_judged<R: Host>(
         if let Some(replaced) = put_once(rt, folder, &mut system, name.as_str(), bytes, &judge)? {
             return Ok(replaced);
         }
+        let has_no_lock = system.fault() == Some(FolderFault::NoLock);
         look(rt, folder, &mut system, &mut judge)?;
-        if system.fault() == Some(FolderFault::NoLock) {
+        if has_no_lock {
             return put_part(rt, folder, bytes);
         }
         if !patience.wait(rt) {

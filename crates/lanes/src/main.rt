@@ -40,6 +40,7 @@ mod reports;
 mod said;
 mod scripts;
 mod spreading;
+mod told_folder;
 mod unwritten;
 mod watched;
 mod watched_folder;

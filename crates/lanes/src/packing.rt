@@ -1,20 +1,20 @@
 //! Packing a folder: small parts are joined into one, which is put in their place.
 
 use crate::failure::Failure;
-use crate::folders::{Parts, parts_of};
-use crate::heads::Heads;
+use crate::folders::{Parts, SystemRound};
 use crate::host::Host;
-use crate::part_failures::{Unread, busy, of_folder, why_unread};
-use crate::parts::Untold;
-use crate::replacing::{Round, replace};
+use crate::part_failures::{Unread, busy, of_folder};
+use crate::putting::new_temporary;
+use crate::replacing::{Round, round_of};
 use crate::said::say_line;
-use folder_home::{PartFault, PartRefusal, packed_prefix};
-use part_folder::{is_link, sweep};
+use crate::told_folder::ToldFolder;
+use folder_home::packed_prefix;
+use part_folder::{is_link, path_in, sweep};
 use patience::Patience;
 use refusal_sentences::CommandRefusal;
 use std::fs::{self, Files};
 use std::io::ErrorKind;
-use table_model::{Counted, Refusal};
+use table_model::Refusal;
 
 /// Joins the small parts of a folder into one, until each part has more than a seventh of the bytes of those before it, or once all
 /// parts; and says how many parts there are then, and how many were joined and removed.
@@ -39,11 +39,8 @@ fn pack_rounds<R: Host>(rt: &R, folder: &str, is_all: bool) -> Result<usize, Fai
     let mut packed = 0usize;
     let mut patience = Patience::new(rt);
     for _ in 0..u64::MAX {
-        let chosen = chosen_parts(rt, folder, is_all)?;
-        if chosen.len() < 2 {
-            return Ok(packed);
-        }
-        match pack_once(rt, folder, chosen.as_slice())? {
+        match pack_once(rt, folder, is_all)? {
+            Round::Idle => return Ok(packed),
             Round::Replaced(count) => {
                 packed = packed.saturating_add(count);
                 if is_all {
@@ -69,9 +66,14 @@ fn is_file<R: Files>(rt: &R, name: &str) -> bool {
     }
 }
 
-/// The paths of the parts that are joined next, the smallest first.
-fn chosen_parts<R: Host>(rt: &R, folder: &str, is_all: bool) -> Result<Vec<String>, Failure> {
-    let sized = sized_parts(rt, folder)?;
+/// The names of the parts that are joined next, the smallest first.
+fn chosen_parts<R: Host>(
+    rt: &R,
+    folder: &str,
+    system: &mut SystemRound<'_, R>,
+    is_all: bool,
+) -> Result<Vec<String>, Failure> {
+    let sized = sized_parts(rt, folder, system)?;
     let mut sizes = Vec::with_capacity(rt.alloc(), sized.len())?;
     for (size, _) in sized.as_slice() {
         sizes.push(*size)?;
@@ -81,20 +83,25 @@ fn chosen_parts<R: Host>(rt: &R, folder: &str, is_all: bool) -> Result<Vec<Strin
     } else {
         packed_prefix(sizes.as_slice())
     };
-    let mut paths = Vec::with_capacity(rt.alloc(), count)?;
-    for (_, path) in sized.into_iter().take(count) {
-        paths.push(path)?;
+    let mut names = Vec::with_capacity(rt.alloc(), count)?;
+    for (_, name) in sized.into_iter().take(count) {
+        names.push(name)?;
     }
-    Ok(paths)
+    Ok(names)
 }
 
 /// The parts of a folder with their sizes, in ascending order of size and then of name.
-fn sized_parts<R: Host>(rt: &R, folder: &str) -> Result<Vec<(u64, String)>, Failure> {
-    let parts = Parts::listed(rt, folder, false)?;
+fn sized_parts<R: Host>(
+    rt: &R,
+    folder: &str,
+    system: &mut SystemRound<'_, R>,
+) -> Result<Vec<(u64, String)>, Failure> {
+    let parts = Parts::listed_in(rt, folder, system, false)?;
     let mut sized = Vec::with_capacity(rt.alloc(), parts.count())?;
-    for path in parts.into_paths() {
+    for name in parts.into_names() {
+        let path = path_in(rt.alloc(), folder, name.as_str())?;
         match fs::metadata(rt, path.as_str()) {
-            Ok(found) if found.is_file() => sized.push((found.len(), path))?,
+            Ok(found) if found.is_file() => sized.push((found.len(), name))?,
             Ok(_) => {}
             Err(error) if error.kind() == ErrorKind::NotFound && !is_link(rt, path.as_str()) => {}
             Err(error) => {
@@ -108,32 +115,22 @@ fn sized_parts<R: Host>(rt: &R, folder: &str) -> Result<Vec<(u64, String)>, Fail
     Ok(sized)
 }
 
-/// Joins the parts of these paths into one, and removes them.
-fn pack_once<R: Host>(rt: &R, folder: &str, paths: &[String]) -> Result<Round, Failure> {
-    match joined(rt, paths) {
-        Ok(bytes) => replace(rt, folder, paths, bytes.as_slice()),
-        Err(Unread::Gone) | Err(Unread::Folder) => Ok(Round::Overtaken),
-        Err(Unread::Refused(failure)) => Err(failure),
+/// Joins the parts that are to be joined next into one, and removes them: they are listed, read and replaced by the calls of the
+/// protocol on one folder.
+fn pack_once<R: Host>(rt: &R, folder: &str, is_all: bool) -> Result<Round, Failure> {
+    let mut system = ToldFolder::open(&*rt, &*folder, None)?;
+    let chosen = chosen_parts(rt, folder, &mut system, is_all)?;
+    if chosen.len() < 2 {
+        return Ok(Round::Idle);
     }
-}
-
-/// The join of the parts of these paths, as a part.
-fn joined<R: Files + AllocGlobal>(rt: &R, paths: &[String]) -> Result<Vec<u8>, Unread> {
-    let mut writer = Counted::new(Vec::new(rt.alloc()));
-    let heads = Heads::new(rt.alloc());
-    let mut readers = parts_of(rt, paths, Untold, &heads)?;
-    let outcome = match readers.as_mut_slice().split_first_mut() {
-        Some((first, others)) => folder_home::pack(rt.alloc(), first, others, &mut writer),
-        None => return Err(Unread::Gone),
-    };
-    match outcome {
-        Ok(()) => Ok(writer.into_inner()),
-        Err(
-            PartRefusal {
-                fault: PartFault::Refused(Refusal::WriteFault),
-                ..
-            },
-        ) => { Err(Unread::Refused(Failure::from(Refusal::Memory))) }
-        Err(refusal) => Err(why_unread(rt, paths, readers, refusal, &heads)),
+    let temporary = new_temporary(rt, folder)?;
+    let temporary = temporary.as_str();
+    match folder_commands::pack(rt.alloc(), &mut system, temporary, chosen.as_slice()) {
+        Ok(Some(done)) => round_of(rt, folder, done),
+        Ok(None) => Ok(Round::Idle),
+        Err(fault) => match system.why(fault) {
+            Unread::Gone | Unread::Folder => Ok(Round::Overtaken),
+            Unread::Refused(failure) => Err(failure),
+        },
     }
 }

@@ -91,7 +91,7 @@ impl<'r, R: Clock + Eprint> Progress<'r, R> {
     }
 
     /// Says that the part of this number of a folder is opened, and how many parts there are, if that is due.
-    fn tell_part(&self, folder: &str, number: usize, parts: usize) {
+    pub fn tell_part(&self, folder: &str, number: usize, parts: usize) {
         let source = Source::File(folder);
         self.begin(source);
         if self.is_due(source) {

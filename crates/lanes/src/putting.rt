@@ -7,9 +7,10 @@ use crate::part_failures::of_folder;
 use file_home::Left;
 use file_replacing::Replaced;
 use folder_home::part_name;
-use folder_protocol::{self, Outcome, put};
+use folder_protocol::{self, Folder, Outcome, put};
 use part_folder::{MakeFault, SystemFolder, make, path_in, temporary_name};
 use refusal_sentences::CommandRefusal;
+use std::alloc::Global;
 use std::fs::{File, Files};
 use std::io::ErrorKind;
 use std::random::RandomSource;
@@ -105,11 +106,15 @@ pub fn unkept<R: Files<File = File> + AllocGlobal>(
 
 /// Has the parts of a folder on the disk that a command has read, which adds none since all that it brings is there.
 pub fn keep_all<R: Host>(rt: &R, folder: &str, parts: &Parts) -> Left {
-    let kept = match SystemFolder::open(rt, folder) {
-        Ok(mut system) => folder_protocol::keep_all(rt.alloc(), &mut system, parts.names()),
-        Err(error) => Err(error),
-    };
-    match kept {
+    match SystemFolder::open(rt, folder) {
+        Ok(mut system) => keep_in(rt.alloc(), &mut system, parts.names()),
+        Err(_) => Left::KeptUnsynced,
+    }
+}
+
+/// Has the parts of these names of a folder on the disk, and says how it is left.
+pub fn keep_in<F: Folder>(alloc: Global, folder: &mut F, names: &[String]) -> Left {
+    match folder_protocol::keep_all(alloc, folder, names) {
         Ok(()) => Left::Kept,
         Err(_) => Left::KeptUnsynced,
     }

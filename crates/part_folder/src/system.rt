@@ -50,12 +50,21 @@ impl<'r, R: Files<File = File> + AllocGlobal> SystemFolder<'r, R> {
 }
 
 impl<'r, R: Files<File = File>> SystemFolder<'r, R> {
-    /// Why its lock was not got or its names were not listed, if that was tried and failed.
+    /// Nothing is known yet of why the call fails that is made now.
+    fn begin(&mut self)
+        ensures { self.new.calls.noted ≡ self.old.calls.noted }
+    {
+        self.fault = None;
+        self.unread = None;
+    }
+
+    /// Why its lock was not got or its names were not listed, if that was tried last and failed. That a name is removed then, or the
+    /// lock let go, is no further try.
     pub fn fault(&self) -> Option<FolderFault> {
         self.fault
     }
 
-    /// The name of the file that could not be read, if that was tried and failed.
+    /// The name of the file that could not be read, if that was tried last and failed.
     pub fn unread(&self) -> Option<&str> {
         match &self.unread {
             Some(name) => Some(name.as_str()),
@@ -156,6 +165,7 @@ impl<'r, R: Files<File = File> + Clock + AllocGlobal + Clone + Drop> Folder
     ghost history = { λ folder. calls_of folder.calls.noted };
 
     fn make(&mut self, name: &str) -> io::Result<()> {
+        self.begin();
         match made(self.rt, self.path.as_str(), name) {
             Ok(file) => {
                 self.file = Some(file);
@@ -170,6 +180,7 @@ impl<'r, R: Files<File = File> + Clock + AllocGlobal + Clone + Drop> Folder
     }
 
     fn write(&mut self, bytes: &[u8]) -> io::Result<usize> {
+        self.begin();
         let answer = match &mut self.file {
             Some(file) => write_some(file, bytes),
             None => Err(io::Error::from(ErrorKind::NotFound)),
@@ -182,12 +193,14 @@ impl<'r, R: Files<File = File> + Clock + AllocGlobal + Clone + Drop> Folder
     }
 
     fn sync(&mut self) -> io::Result<()> {
+        self.begin();
         let answer = opened(&self.file).and_then(|file| file.sync_all());
         self.calls.synced(answer.is_ok());
         answer
     }
 
     fn link(&mut self, from: &str, to: &str) -> io::Result<bool> {
+        self.begin();
         let answer = linked(self.rt, self.path.as_str(), from, to);
         match answer {
             Ok(true) => self.calls.linked(from, to),
@@ -204,12 +217,14 @@ impl<'r, R: Files<File = File> + Clock + AllocGlobal + Clone + Drop> Folder
     }
 
     fn settle(&mut self) -> io::Result<()> {
+        self.begin();
         let answer = self.folder.sync_all();
         self.calls.settled(answer.is_ok());
         answer
     }
 
     fn lock(&mut self) -> io::Result<()> {
+        self.begin();
         match FolderLock::exclusive(self.rt, self.path.as_str()) {
             Ok(lock) => {
                 self.lock = Some(lock);
@@ -225,6 +240,7 @@ impl<'r, R: Files<File = File> + Clock + AllocGlobal + Clone + Drop> Folder
     }
 
     fn lock_shared(&mut self) -> io::Result<()> {
+        self.begin();
         match FolderLock::shared(self.rt, self.path.as_str()) {
             Ok(lock) => {
                 self.lock = lock;
@@ -240,6 +256,7 @@ impl<'r, R: Files<File = File> + Clock + AllocGlobal + Clone + Drop> Folder
     }
 
     fn list(&mut self, _alloc: Global) -> io::Result<Vec<String>> {
+        self.begin();
         match list_locked(self.rt, self.path.as_str()) {
             Ok(listing) => {
                 self.unreadable = listing.unreadable();
@@ -263,6 +280,7 @@ impl<'r, R: Files<File = File> + Clock + AllocGlobal + Clone + Drop> Folder
     }
 
     fn read(&mut self, alloc: Global, name: &str) -> io::Result<Option<Vec<u8>>> {
+        self.begin();
         match read_in(self.rt, alloc, self.path.as_str(), name) {
             Ok(Some((file, bytes))) => {
                 self.file = Some(file);
