@@ -15,7 +15,7 @@ returns-in-Ok-into_store-clause-read g c =
     let taken = c.take_each.new.taker.taken.1 in
     let each = subst (λ (l : List (List ℕ)). EachTaken l names calls taken) (ap (λ l. map string_bytes l) c.new-joiner.ensures.passed) (c.in-Ok.ensures.taken folder_parts refl) in
     let only = subst (λ (l : List (List ℕ)). AreReadSince folder_parts l taken calls) c.new-joiner.ensures.none (c.in-Ok.ensures.only folder_parts refl) in
-    all_read passed names taken (option_map (λ store. store.replica) c.in-Ok-into_store.answer) calls c.in-Ok-into_store.ensures each only
+    all_read passed names taken (option_map (λ store. store.replica) c.in-Ok-into_store.answer) calls c.in-Ok-into_store.ensures.join each only
 
 pub returns-in-Ok-into_store-clause-since : goal.returns-in-Ok-into_store-clause-since
 returns-in-Ok-into_store-clause-since g c = λ listed gave none same.
