@@ -95,7 +95,7 @@ impl Parts {
     /// The parts of a folder, listed under its shared lock. There is at least one. A folder is not a part, even if named like one; that
     /// is looked at only if it is asked for.
     pub fn listed<R: Host>(rt: &R, folder: &str, is_careful: bool) -> Result<Parts, Failure> {
-        let mut system = ToldFolder::open(&*rt, &*folder, None)?;
+        let mut system = ToldFolder::open(rt, folder, None)?;
         Parts::listed_in(rt, folder, &mut system, is_careful)
     }
 
@@ -103,7 +103,7 @@ impl Parts {
     pub fn listed_in<R: Host>(
         rt: &R,
         folder: &str,
-        system: &mut SystemRound<'_, R>,
+        system: &mut SystemRound<'_, '_, R>,
         is_careful: bool,
     ) -> Result<Parts, Failure> {
         let names = names_in(rt.alloc(), system)?;
@@ -147,7 +147,7 @@ impl Parts {
 }
 
 /// A folder of the system, as a round of a command reads it.
-pub type SystemRound<'r, R> = ToldFolder<'r, R, SystemFolder<'r, R>>;
+pub type SystemRound<'r, 'n, R> = ToldFolder<'r, 'n, R, SystemFolder<'r, R>>;
 
 /// The refusal of a folder that has no part.
 pub fn no_part(alloc: Global, folder: &str) -> Failure {
@@ -158,7 +158,7 @@ pub fn no_part(alloc: Global, folder: &str) -> Failure {
 /// The names in a folder, listed under its shared lock.
 fn names_in<R: Host>(
     alloc: Global,
-    system: &mut SystemRound<'_, R>,
+    system: &mut SystemRound<'_, '_, R>,
 ) -> Result<Vec<String>, Failure> {
     match list_names(alloc, system) {
         Ok(names) => Ok(names),
@@ -186,7 +186,7 @@ fn folders_among<R: Files + AllocGlobal>(
 pub fn passed_in<R: Host>(
     rt: &R,
     folder: &str,
-    system: &mut SystemRound<'_, R>,
+    system: &mut SystemRound<'_, '_, R>,
     is_careful: bool,
 ) -> Result<Vec<String>, Failure> {
     if !is_careful {
@@ -243,7 +243,7 @@ pub fn open_folder<H: Opens, R: Host>(
 ) -> Result<Opened<H>, Failure> {
     let mut looks = Looks::new(rt);
     for _ in 0..u64::MAX {
-        let outcome = open_once(rt, &*progress, &*folder, looks.is_careful());
+        let outcome = open_once(&*rt, &*progress, folder, looks.is_careful());
         progress.clear();
         match outcome {
             Ok(opened) => return Ok(opened),
@@ -261,7 +261,7 @@ pub fn open_folder<H: Opens, R: Host>(
 fn open_once<'r, H: Opens, R: Host>(
     rt: &'r R,
     progress: &'r Progress<'r, R>,
-    folder: &'r str,
+    folder: &str,
     is_careful: bool,
 ) -> Result<Opened<H>, Unread> {
     let mut system = ToldFolder::open(rt, folder, Some(progress))?;

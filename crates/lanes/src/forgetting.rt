@@ -24,7 +24,7 @@ pub fn forget_folder<R: Host>(
 ) -> Result<Done, Failure> {
     let mut looks = Looks::new(rt);
     for _ in 0..u64::MAX {
-        let outcome = forget_once(rt, &*progress, &*folder, looks.is_careful());
+        let outcome = forget_once(&*rt, &*progress, folder, looks.is_careful());
         progress.clear();
         match outcome {
             Ok((done, left)) => return Ok(Done::new(Reply::Forgotten(done), left)),
@@ -43,7 +43,7 @@ pub fn forget_folder<R: Host>(
 fn forget_once<'r, R: Host>(
     rt: &'r R,
     progress: &'r Progress<'r, R>,
-    folder: &'r str,
+    folder: &str,
     is_careful: bool,
 ) -> Result<(Forgotten, Left), Unread> {
     let mut system = ToldFolder::open(rt, folder, Some(progress))?;
@@ -73,7 +73,7 @@ fn forget_once<'r, R: Host>(
 fn kept<R: Host>(
     rt: &R,
     folder: &str,
-    system: SystemRound<'_, R>,
+    system: SystemRound<'_, '_, R>,
     names: Vec<String>,
     passed: &[String],
 ) -> Result<Left, Failure> {

@@ -70,7 +70,7 @@ fn is_file<R: Files>(rt: &R, name: &str) -> bool {
 fn chosen_parts<R: Host>(
     rt: &R,
     folder: &str,
-    system: &mut SystemRound<'_, R>,
+    system: &mut SystemRound<'_, '_, R>,
     is_all: bool,
 ) -> Result<Vec<String>, Failure> {
     let sized = sized_parts(rt, folder, system)?;
@@ -94,7 +94,7 @@ fn chosen_parts<R: Host>(
 fn sized_parts<R: Host>(
     rt: &R,
     folder: &str,
-    system: &mut SystemRound<'_, R>,
+    system: &mut SystemRound<'_, '_, R>,
 ) -> Result<Vec<(u64, String)>, Failure> {
     let parts = Parts::listed_in(rt, folder, system, false)?;
     let mut sized = Vec::with_capacity(rt.alloc(), parts.count())?;
@@ -118,7 +118,7 @@ fn sized_parts<R: Host>(
 /// Joins the parts that are to be joined next into one, and removes them: they are listed, read and replaced by the calls of the
 /// protocol on one folder.
 fn pack_once<R: Host>(rt: &R, folder: &str, is_all: bool) -> Result<Round, Failure> {
-    let mut system = ToldFolder::open(&*rt, &*folder, None)?;
+    let mut system = ToldFolder::open(rt, folder, None)?;
     let chosen = chosen_parts(rt, folder, &mut system, is_all)?;
     if chosen.len() < 2 {
         return Ok(Round::Idle);

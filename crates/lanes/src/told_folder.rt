@@ -48,9 +48,9 @@ impl Begun {
 
 /// A folder, as a round of a command reads its parts and then maybe puts one.
 #[derive(Drop)]
-pub struct ToldFolder<'r, R: Host, F: Folder + Drop> {
+pub struct ToldFolder<'r, 'n, R: Host, F: Folder + Drop> {
     rt: &'r R,
-    path: &'r str,
+    path: &'n str,
     progress: Option<&'r Progress<'r, R>>,
     inner: F,
     begun: Begun,
@@ -62,13 +62,13 @@ pub struct ToldFolder<'r, R: Host, F: Folder + Drop> {
     is_putting: bool,
 }
 
-impl<'r, R: Host> ToldFolder<'r, R, SystemFolder<'r, R>> {
+impl<'r, 'n, R: Host> ToldFolder<'r, 'n, R, SystemFolder<'r, R>> {
     /// Opens a folder of this path. If there is some progress, it says at a terminal how many parts were begun.
     pub fn open(
         rt: &'r R,
-        path: &'r str,
+        path: &'n str,
         progress: Option<&'r Progress<'r, R>>,
-    ) -> Result<ToldFolder<'r, R, SystemFolder<'r, R>>, Failure> {
+    ) -> Result<ToldFolder<'r, 'n, R, SystemFolder<'r, R>>, Failure> {
         match SystemFolder::open(rt, path) {
             Ok(inner) => Ok(ToldFolder {
                 rt,
@@ -147,7 +147,7 @@ impl<'r, R: Host> ToldFolder<'r, R, SystemFolder<'r, R>> {
     }
 }
 
-impl<'r, R: Host, F: Folder + Drop> ToldFolder<'r, R, F> {
+impl<'r, 'n, R: Host, F: Folder + Drop> ToldFolder<'r, 'n, R, F> {
     /// So many of the names that parts have are those of folders: they are passed over.
     pub fn pass_over(&mut self, folders: usize) {
         self.folders = folders;
@@ -169,7 +169,7 @@ impl<'r, R: Host, F: Folder + Drop> ToldFolder<'r, R, F> {
     }
 }
 
-impl<'r, R: Host, F: Folder + Drop> Folder for ToldFolder<'r, R, F> {
+impl<'r, 'n, R: Host, F: Folder + Drop> Folder for ToldFolder<'r, 'n, R, F> {
     ghost history = { λ folder. F.history folder.inner };
 
     fn make(&mut self, name: &str) -> io::Result<()> {
