@@ -1,5 +1,5 @@
 -- What is made of parts covers each of them, so they may go.
-use Rattle.std.specs.Prelude.{◌≡◌, ℕ, Bool, true, false, cond, not, List, [], ◌∷◌, ◌++◌, filter, Option, Some, Ok}
+use Rattle.std.specs.Prelude.{◌≡◌, ℕ, Bool, true, false, cond, not, List, [], ◌∷◌, ◌++◌, filter, Option, Some, None, Ok, IfSome}
 use Rattle.std.proofs.Common.{refl, sym, ap, subst, ◌∙◌, inl, inr}
 use Rattle.std.proofs.lemmas.Bool.{and_parts}
 use Rattle.table_model.specs.Identifier.{same_text}
@@ -10,7 +10,8 @@ use Rattle.folder_history.specs.Parts.{Parts}
 use Rattle.folder_history.specs.Turn.{HasRead}
 use Rattle.folder_protocol.specs.Goes.{GoesInTurn, AreJoined}
 use Rattle.folder_protocol.specs.declared.putting.Outcome.{Outcome}
-use Rattle.folder_protocol.proofs.Causing.{Follows}
+use Rattle.folder_protocol.specs.Causes.{Lacks, LookCause}
+use Rattle.folder_protocol.proofs.Causing.{Follows, has_later, look_later}
 use Rattle.folder_protocol.proofs.Lines.{removed_between}
 use Rattle.replica_store.specs.Replica.{Replica}
 use Rattle.replica_reading.specs.Held.{held_in}
@@ -91,6 +92,11 @@ read_later passed names whole mid after more parts = record {
   each = parts.each;
 }
 
+looked_after : (outcome : Option Outcome) (name bytes : List ℕ) (before mid after : List Call) → Follows before mid → IfSome outcome (λ how. LookCause how name bytes mid after)
+    → IfSome outcome (λ how. LookCause how name bytes before after)
+looked_after None name bytes before mid after first cause = tt
+looked_after (Some how) name bytes before mid after first cause = look_later how name bytes before mid after first cause
+
 -- what was replaced was so after the calls before
 pub replaced_after : (passed names : List (List ℕ)) (bytes name : List ℕ) (gone : List (List ℕ)) (outcome : Option Outcome) (before mid after : List Call) → GoesInTurn folder_parts before mid
     → Replaces passed names bytes name gone outcome mid after → Replaces passed names bytes name gone outcome before after
@@ -98,4 +104,6 @@ replaced_after passed names bytes name gone outcome before mid after first done 
   named = done.named;
   going = done.going;
   removed = λ on. removed_between gone before mid after after first.0 [] first.1 (done.removed on) refl;
+  cause = looked_after outcome name bytes before mid after (first.0, first.1) done.cause;
+  overtaken = λ none. has_later (Lacks gone) before mid after (first.0, first.1) (done.overtaken none);
 }

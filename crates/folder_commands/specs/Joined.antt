@@ -1,8 +1,8 @@
 -- What parts of a folder hold together, as they were read by noted calls.
-use Rattle.std.specs.Prelude.{◌≡◌, ℕ, true, List, [], ◌∷◌, reverse, Option, Some, None, Ok}
+use Rattle.std.specs.Prelude.{◌≡◌, ℕ, true, List, [], ◌∷◌, ◌++◌, reverse, Option, Some, None, Ok}
 use Rattle.folder_history.specs.Call.{Call}
 use Rattle.folder_history.specs.Disk.{Among}
-use Rattle.folder_history.specs.Turn.{HasRead}
+use Rattle.folder_history.specs.Turn.{Gave, HasRead, listing_of}
 use Rattle.replica_store.specs.Replica.{Replica}
 use Rattle.replica_commands.specs.Commands.{merged_files}
 use Rattle.folder_home.specs.Covers.{folder_parts}
@@ -24,7 +24,15 @@ pub record AreRead (passed names : List (List ℕ)) (whole : Replica) (calls : L
   -- and under each name that is wanted there is one
   pub each : (name : List ℕ) → Among name names → is_wanted passed name ≡ true → (file : List ℕ) × (name ≡ part_name file) × Among file (first ∷ others)
 
+-- none of these names is wanted
+abbrev pub AreUnwanted : List (List ℕ) → List (List ℕ) → Type 0
+AreUnwanted passed names = (name : List ℕ) → Among name names → is_wanted passed name ≡ true → ⊥
+
 -- The parts of these names that are wanted were read by these calls, and this is what they hold together; or none of the names is wanted.
 abbrev pub IsReadAs : List (List ℕ) → List (List ℕ) → Option Replica → List Call → Type 0
-IsReadAs passed names None calls = (name : List ℕ) → Among name names → is_wanted passed name ≡ true → ⊥
+IsReadAs passed names None calls = AreUnwanted passed names
 IsReadAs passed names (Some whole) calls = AreRead passed names whole calls
+
+-- At some moment between two histories these were the names that the last listing had given.
+abbrev pub WereGiven : List (List ℕ) → List Call → List Call → Type 0
+WereGiven names before after = (first : List Call) × (rest : List Call) × (after ≡ rest ++ (first ++ before)) × (listing_of (first ++ before) ≡ Gave names)

@@ -1,8 +1,9 @@
 -- What a pack and a forget put in the place of the parts that they have read.
-use Rattle.std.specs.Prelude.{◌≡◌, ℕ, true, List, [], filter, Option, Some, None, Ok}
+use Rattle.std.specs.Prelude.{◌≡◌, ℕ, true, List, [], filter, Option, Some, None, Ok, IfSome}
 use Rattle.folder_history.specs.Call.{Call}
 use Rattle.folder_history.specs.Disk.{Among}
 use Rattle.folder_history.specs.Turn.{HasRead}
+use Rattle.folder_protocol.specs.Causes.{Lacks, HasCall, LookCause}
 use Rattle.folder_protocol.specs.Goes.{AreRemoved}
 use Rattle.folder_protocol.specs.declared.putting.Outcome.{Outcome}
 use Rattle.folder_protocol.specs.declared.putting.Outcome.TheVariants.{OnDisk}
@@ -21,11 +22,14 @@ AreCoveredBy passed names bytes calls =
     (name : List ℕ) → Among name names → is_wanted passed name ≡ true → (part : List ℕ) × (name ≡ part_name part) × HasRead folder_parts part calls × (covers bytes part ≡ true)
 
 -- A part with these bytes was put in the place of those of these names: it has the name of its bytes; those that are wanted go, but for
--- itself; and once it was on the disk, they were removed.
+-- itself; and once it was on the disk, they were removed. If it is not on the disk, that has its cause; and if none was put, one of them
+-- was not listed.
 pub record Replaces (passed names : List (List ℕ)) (bytes name : List ℕ) (gone : List (List ℕ)) (outcome : Option Outcome) (before after : List Call) : Type 0 where
   pub named : name ≡ part_name bytes
   pub going : gone ≡ filter (goes passed name) names
   pub removed : outcome ≡ Some OnDisk → AreRemoved gone before after
+  pub cause : IfSome outcome (λ how. LookCause how name bytes before after)
+  pub overtaken : outcome ≡ None → HasCall (Lacks gone) before after
 
 -- A pack of the parts of these names: they were read, and the file of their join, which is read as it, was put in their place.
 pub record Packs (names : List (List ℕ)) (name : List ℕ) (gone : List (List ℕ)) (outcome : Option Outcome) (before after : List Call) : Type 0 where

@@ -1,12 +1,14 @@
 //! A forget: the parts of a folder are read and joined, and what is left of them without dead batches is put in their place.
-ghost use Rattle.std.specs.Prelude.{◌≡◌, ◌==◌, not, true, Ok, List, ℕ, map, string_bytes, IfOk, IfSome, option_map};
+ghost use Rattle.std.specs.Prelude.{◌≡◌, ◌==◌, not, true, Ok, None, List, ℕ, map, string_bytes, IfOk, IfErr, IfSome, option_map};
 ghost use Rattle.folder_history.specs.Parts.{IsNoPart};
 ghost use Rattle.folder_protocol.specs.Goes.{GoesInTurn};
+ghost use Rattle.folder_protocol.specs.Taking.{UntakenCause};
 ghost use Rattle.replica_store.specs.Replica.{Replica};
 ghost use Rattle.replica_reading.specs.Held.{held_in};
 ghost use Rattle.replica_commands.specs.Commands.{file_of, as_held};
 ghost use Rattle.replica_commands.specs.Forgetting.{forgetting};
 ghost use Rattle.folder_home.specs.Covers.{folder_parts};
+ghost use Rattle.folder_commands.specs.Joined.{AreUnwanted, WereGiven};
 ghost use Rattle.folder_commands.specs.Replacing.{IsForgot};
 
 use crate::reading::{read_folder, refused};
@@ -53,6 +55,12 @@ pub fn forget<F: Folder>(
     ensures in_turn { IsNoPart folder_parts temporary.now → GoesInTurn folder_parts (F.history folder.old) (F.history folder.new) }
     // What is put is what a forget leaves of the parts that were read, and these are removed.
     ensures forgot { IfOk result (λ answer. IfSome answer (λ f. IsForgot (map string_bytes passed.now) (map string_bytes f.names.items) (f.dropped.batches, f.dropped.rows) (option_map (λ done. (string_bytes done.name, map string_bytes done.gone.items, done.outcome)) f.replaced) (F.history folder.old) (F.history folder.new))) }
+    // Its names are those that a listing gave.
+    ensures listed { IfOk result (λ answer. IfSome answer (λ f. WereGiven (map string_bytes f.names.items) (F.history folder.old) (F.history folder.new))) }
+    // None if a listing gave no part's name, but for those that are passed over.
+    ensures none { IfOk result (λ answer. answer ≡ None → (names : List (List ℕ)) × WereGiven names (F.history folder.old) (F.history folder.new) × AreUnwanted (map string_bytes passed.now) names) }
+    // An error has its cause: a part that was gone, a call that failed, or a part that is refused.
+    ensures cause { IfErr result (λ fault. UntakenCause fault (F.history folder.old) (F.history folder.new)) }
 {
     let read = match read_folder(alloc, folder, passed) {
         Ok(read) => read,

@@ -1,10 +1,12 @@
 //! A pack: parts are read and joined, and their join is put in their place.
-ghost use Rattle.std.specs.Prelude.{◌≡◌, Ok, map, string_bytes, IfOk, IfSome};
+ghost use Rattle.std.specs.Prelude.{◌≡◌, [], Ok, None, map, string_bytes, IfOk, IfErr, IfSome};
 ghost use Rattle.folder_history.specs.Parts.{IsNoPart};
 ghost use Rattle.folder_protocol.specs.Goes.{GoesInTurn};
+ghost use Rattle.folder_protocol.specs.Taking.{UntakenCause};
 ghost use Rattle.replica_reading.specs.Held.{held_in};
 ghost use Rattle.replica_commands.specs.Commands.{file_of, as_held};
 ghost use Rattle.folder_home.specs.Covers.{folder_parts};
+ghost use Rattle.folder_commands.specs.Joined.{AreUnwanted};
 ghost use Rattle.folder_commands.specs.Replacing.{Packs};
 
 use crate::reading::{read_named, refused};
@@ -40,6 +42,10 @@ pub fn pack<F: Folder>(
     ensures in_turn { IsNoPart folder_parts temporary.now → GoesInTurn folder_parts (F.history folder.old) (F.history folder.new) }
     // What is put is what the parts hold that were read, and these are removed.
     ensures packed { IfOk result (λ answer. IfSome answer (λ done. Packs (map string_bytes names.now) (string_bytes done.name) (map string_bytes done.gone.items) done.outcome (F.history folder.old) (F.history folder.new))) }
+    // None if no name is a part's.
+    ensures none { IfOk result (λ answer. answer ≡ None → AreUnwanted [] (map string_bytes names.now)) }
+    // An error has its cause: a part that was gone, a call that failed, or a part that is refused.
+    ensures cause { IfErr result (λ fault. UntakenCause fault (F.history folder.old) (F.history folder.new)) }
 {
     let store = match read_named(alloc, folder, &[], names) {
         Ok(Some(store)) => store,

@@ -1,8 +1,8 @@
 //! How a part is put in the place of those that were read to make it.
-ghost use Rattle.std.specs.Prelude.{◌≡◌, ◌++◌, List, map, filter, string_bytes, IfOk, OnOk};
-ghost use Rattle.folder_history.specs.Call.{Call};
+ghost use Rattle.std.specs.Prelude.{◌≡◌, map, filter, string_bytes, IfOk, IfErr};
 ghost use Rattle.folder_history.specs.Parts.{IsNoPart};
 ghost use Rattle.folder_protocol.specs.Goes.{GoesInTurn};
+ghost use Rattle.folder_protocol.specs.Taking.{UntakenCause};
 ghost use Rattle.folder_home.specs.Covers.{folder_parts};
 ghost use Rattle.folder_home.specs.PartName.{part_name};
 ghost use Rattle.folder_commands.specs.Replacing.{AreCoveredBy, Replaces};
@@ -53,9 +53,9 @@ pub(crate) fn replace_read<F: Folder>(
 ) -> Result<Replaced, Untaken<PartRefusal>>
     // Each call is in turn.
     ensures in_turn { IsNoPart folder_parts temporary.now → AreCoveredBy (map string_bytes passed.now) (map string_bytes names.now) bytes.now (F.history folder.old) → GoesInTurn folder_parts (F.history folder.old) (F.history folder.new) }
-    ensures follows { OnOk result ((calls : List Call) × (F.history folder.new ≡ calls ++ F.history folder.old)) }
     // The part is named by its bytes, and those that are wanted go, but for itself.
     ensures replaces { IfOk result (λ done. Replaces (map string_bytes passed.now) (map string_bytes names.now) bytes.now (string_bytes done.name) (map string_bytes done.gone.items) done.outcome (F.history folder.old) (F.history folder.new)) }
+    ensures cause { IfErr result (λ fault. UntakenCause fault (F.history folder.old) (F.history folder.new)) }
 {
     let (name, gone) = match names_for(alloc, passed, names, bytes) {
         Ok(both) => both,

@@ -2,6 +2,7 @@
 use Rattle.std.specs.Prelude.{[], Option, map, string_bytes, option_map}
 use Rattle.std.proofs.Common.{ap, ◌∙◌}
 use Rattle.folder_protocol.proofs.Lines.{joins}
+use Rattle.folder_protocol.proofs.TakeLines.{untaken_later}
 use Rattle.replica_store.specs.declared.store.Store.{Store}
 use Rattle.folder_home.specs.Covers.{folder_parts}
 use Rattle.folder_commands.proofs.Commands.{pack_covers, packs}
@@ -23,7 +24,7 @@ returns-in-Ok-replace_read-clause-packed g c =
     let after = g.F.Folder.history c.replace_read.new.folder in
     packs (map string_bytes c.args.names.now) (held c.in-Ok-Some.field-0) c.in-Ok-Some.store.replica c.as_slice.result.now (string_bytes c.in-Ok-replace_read.done.name) (map string_bytes c.in-Ok-replace_read.done.gone.items)
     c.in-Ok-replace_read.done.outcome before mid after (ap held c.in-Ok-Some.field-0-is) c.in-Ok-Some.ensures.read (c.as_slice.ensures.value ∙ c.in-Ok.ensures.file, c.in-Ok.ensures.read)
-    c.read_named.ensures.in_turn c.in-Ok-replace_read.ensures.follows c.in-Ok-replace_read.ensures.replaces
+    c.read_named.ensures.in_turn c.in-Ok-replace_read.ensures.replaces
 
 pub returns-clause-in_turn : goal.returns-clause-in_turn
 returns-clause-in_turn g c = λ temp.
@@ -32,3 +33,8 @@ returns-clause-in_turn g c = λ temp.
     let covered = pack_covers [] (map string_bytes c.args.names.now) (held c.in-Ok-Some.field-0) c.in-Ok-Some.store.replica c.as_slice.result.now mid (ap held c.in-Ok-Some.field-0-is) c.in-Ok-Some.ensures.read
     (c.as_slice.ensures.value ∙ c.in-Ok.ensures.file, c.in-Ok.ensures.read) in
     joins folder_parts _ _ _ c.read_named.ensures.in_turn (c.replace_read.ensures.in_turn temp covered)
+
+pub returns-clause-cause : goal.returns-clause-cause
+returns-clause-cause g c =
+    let lists = c.read_named.ensures.in_turn in
+    untaken_later c.in-Err-replace_read.fault _ _ _ (lists.0, lists.1) c.in-Err-replace_read.ensures.cause

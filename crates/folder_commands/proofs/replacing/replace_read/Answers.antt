@@ -1,10 +1,10 @@
 -- What goes was read, and the new part covers it.
-use Rattle.std.specs.Prelude.{ℕ, List, map, filter, string_bytes}
+use Rattle.std.specs.Prelude.{ℕ, List, map, filter, string_bytes, IfSome}
 use Rattle.std.proofs.Common.{sym, ap, subst, ◌∙◌}
+use Rattle.folder_protocol.specs.Causes.{Lacks, HasCall, LookCause}
 use Rattle.folder_protocol.specs.Goes.{AreRemoved}
 use Rattle.folder_home.specs.Covers.{folder_parts}
 use Rattle.folder_commands.specs.Wanted.{goes}
-use Rattle.folder_commands.proofs.Commands.{follows}
 use Rattle.folder_commands.proofs.Replacings.{are_joined}
 use Rattle.folder_commands.proofs.replacing.replace_read.Goals as goal
 
@@ -23,12 +23,11 @@ returns-in-Ok-replace-clause-replaces g c = record {
   going = c.in-Ok.ensures.gone;
   removed = λ on. subst (λ (l : List (List ℕ)). AreRemoved l (g.F.Folder.history c.args.folder.now) (g.F.Folder.history c.replace.new.folder))
       (ap (λ l. map string_bytes l) c.as_slice.ensures.value) (c.in-Ok-replace.ensures.gone on);
+  cause = subst (λ (n : List ℕ). IfSome c.in-Ok-replace.outcome (λ how. LookCause how n c.args.bytes.now (g.F.Folder.history c.args.folder.now) (g.F.Folder.history c.replace.new.folder)))
+      c.as_str.ensures.value c.in-Ok-replace.ensures.cause;
+  overtaken = λ none. subst (λ (l : List (List ℕ)). HasCall (Lacks l) (g.F.Folder.history c.args.folder.now) (g.F.Folder.history c.replace.new.folder))
+      (ap (λ l. map string_bytes l) c.as_slice.ensures.value) (c.in-Ok-replace.ensures.overtaken none);
 }
-
-pub returns-in-Ok-replace-clause-follows : goal.returns-in-Ok-replace-clause-follows
-returns-in-Ok-replace-clause-follows g c =
-    let after = c.in-Ok-replace.ensures in
-    follows c.as_str.result.now c.args.bytes.now (map string_bytes c.as_slice.result.now) c.in-Ok-replace.outcome _ _ after.gone after.cause after.overtaken
 
 pub returns-in-Err-replace-clause-in_turn : goal.returns-in-Err-replace-clause-in_turn
 returns-in-Err-replace-clause-in_turn g c = λ temp covered.
