@@ -1,5 +1,6 @@
 //! A folder whose reads are told of as they are made. Of the parts whose reading has begun the paths and the heads are known, so that a
 //! refusal names them, and how many they are is said at a terminal.
+ghost use Rattle.std.specs.Prelude.{◌≡◌};
 
 use crate::failure::Failure;
 use crate::heads::Heads;
@@ -154,13 +155,19 @@ impl<'r, 'n, R: Host, F: Folder + Drop> ToldFolder<'r, 'n, R, F> {
     }
 
     /// Counts the parts among the names that were listed.
-    fn count(&mut self, names: &[String]) {
+    fn count(&mut self, names: &[String])
+        // No call is made.
+        ensures { self.new.inner ≡ self.old.inner }
+    {
         let parts = names.iter().filter(|name| is_part_name(name.as_str()));
         self.parts = parts.count().saturating_sub(self.folders);
     }
 
     /// The part of a name is read now.
-    fn begin(&mut self, name: &str) {
+    fn begin(&mut self, name: &str)
+        // No call is made yet.
+        ensures { self.new.inner ≡ self.old.inner }
+    {
         self.begun.add(self.rt.alloc(), self.path, name);
         if let Some(progress) = self.progress {
             let number = self.begun.paths.len();
