@@ -147,7 +147,6 @@ def at_a_terminal(room, *words, pieces, pause):
 
 
 CLEAR = b"\r\x1b[K"
-UNSYNCED = b"d: nothing was added, but the parts or the folder could not be synced: a loss of power may take parts away\n"
 
 
 def a_slow_reading_says_at_a_terminal_how_far_it_is_and_clears_the_line(room):
@@ -161,7 +160,8 @@ def a_slow_reading_says_at_a_terminal_how_far_it_is_and_clears_the_line(room):
     steps = shown.split(CLEAR)
     assert status == 0 and steps[0] == b"" and steps[-1] == b"", f"it showed {shown!r}"
     # A slow machine reads the table itself late enough that its line is due as well.
-    told = [re.fullmatch(rb"reading (?:pipe: ([0-9]+) bytes|.*t: [0-9]+ bytes of [0-9]+ bytes)", step) for step in steps[1:-1]]
+    # Between the two the line is cleared twice.
+    told = [re.fullmatch(rb"reading (?:pipe: ([0-9]+) bytes|.*t: [0-9]+ bytes of [0-9]+ bytes)", step) for step in steps[1:-1] if step]
     assert all(told), f"it showed {shown!r}"
     counts = [int(step[1]) for step in told if step[1]]
     assert 3 <= len(counts) <= 9 and counts == sorted(counts) and counts[0] >= 80 and counts[-1] <= 200, f"it showed {shown!r}"
@@ -216,22 +216,38 @@ def the_size_of_a_file_is_said(room):
     assert status == 0 and shown.startswith(CLEAR + b"reading rows: 65 kB of %d kB" % size + CLEAR) and shown.endswith(CLEAR), f"it showed {shown!r}"
 
 
+def held_up_at_a_terminal(room, path, *words):
+    """What a command shows on a terminal that is its standard error, and its status, if each read of a file takes more than a second."""
+    if shutil.which("strace") is None:
+        raise Lacking("strace is not installed")
+    screen, terminal = pty.openpty()
+    run = ["strace", "-f", "-qq", "-o", "/dev/null", "-P", room.path(path), "-e", "trace=read", "-e", "inject=read:delay_enter=1300000"]
+    running = subprocess.Popen([*run, room.program, *words], cwd=room.folder, stdin=subprocess.DEVNULL, stdout=subprocess.PIPE, stderr=terminal)
+    os.close(terminal)
+    running.communicate(timeout=120)
+    return shown_on(screen), running.returncode
+
+
 def a_folder_that_opens_slowly_says_which_part_is_read(room):
     room.ok("create", "d/", "T", "A", "SMALLINT", "B", "BIGINT")
     for number in range(3):
         room.ok("import", "--no-header", "--batch", f"{number + 1}.1", "d", "-", given=b"%d,10\n" % number)
     first = "d/" + sorted(name for name in os.listdir(room.path("d")) if not name.startswith("."))[0]
-    held = room.get(first)
-    os.remove(room.path(first))
-    os.symlink("../pipe", room.path(first))
     for words in (("query", "d", "SELECT COUNT(*) FROM T"), ("check", "d"), ("dump", "d"), ("inspect", "d"), ("summary", "d")):
-        shown, status = at_a_terminal(room, *words, pieces=[held[:8], held[8:-1], held[-1:]], pause=1.2)
+        shown, status = held_up_at_a_terminal(room, first, *words)
         assert status == 0 and shown.startswith(CLEAR + b"reading d: part 2 of 4" + CLEAR) and shown.endswith(CLEAR), f"{words} ended with {status} and showed {shown!r}"
-    # A delete that finds no row syncs each part. This one is a pipe, which is not opened a second time.
-    shown, status = at_a_terminal(room, "delete", "--quiet", "d", "A = 9", pieces=[held[:8], held[8:-1], held[-1:]], pause=1.2)
-    assert status == 0 and shown == UNSYNCED, f"a delete of no row ended with {status} and showed {shown!r}"
-    shown, status = at_a_terminal(room, "delete", "--quiet", "d", "A = 1", pieces=[held[:8], held[8:-1], held[-1:]], pause=1.2)
-    assert status == 0 and shown == b"", f"with --quiet it showed {shown!r}"
+    shown, status = held_up_at_a_terminal(room, first, "delete", "--quiet", "d", "A = 9")
+    assert status == 0 and shown == b"", f"a delete of no row ended with {status} and showed {shown!r}"
+
+
+def a_pipe_that_has_a_parts_name_is_refused_and_not_waited_for(room):
+    room.ok("create", "d/", "T", "A", "SMALLINT", "B", "BIGINT")
+    room.ok("import", "--no-header", "--batch", "1.1", "d", "-", given=b"1,10\n")
+    name = "d/" + "0" * 32 + ".lanes"
+    os.mkfifo(room.path(name))
+    for words in (("query", "d", "SELECT COUNT(*) FROM T"), ("check", "d"), ("delete", "d", "A = 9"), ("forget", "d"), ("apply", "d", "d")):
+        status, _, err = room.run(*words)
+        assert status == 1 and err.startswith(b"refused ReadFault\n" + name.encode() + b": "), f"{words} ended with {status} and said {err!r}"
 
 
 def nothing_is_said_where_standard_error_is_no_terminal(room):
@@ -257,5 +273,6 @@ TESTS = [
     the_line_is_cleared_before_a_refusal,
     the_size_of_a_file_is_said,
     a_folder_that_opens_slowly_says_which_part_is_read,
+    a_pipe_that_has_a_parts_name_is_refused_and_not_waited_for,
     nothing_is_said_where_standard_error_is_no_terminal,
 ]
