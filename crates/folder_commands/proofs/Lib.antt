@@ -2,4 +2,6 @@ pub mod Commands
 pub mod Going
 pub mod Joins
 pub mod Replacings
+pub mod Skimming
+pub mod Temporaries
 pub mod Written

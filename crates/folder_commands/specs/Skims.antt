@@ -7,20 +7,20 @@ use Rattle.folder_history.specs.Disk.{Among}
 use Rattle.folder_protocol.specs.Causes.{HasCall}
 use Rattle.folder_protocol.specs.Keeping.{Finds}
 use Rattle.folder_protocol.specs.declared.taking.Untaken.{Untaken}
-use Rattle.folder_protocol.specs.declared.taking.Untaken.TheVariants.{Refused}
+use Rattle.folder_protocol.specs.declared.taking.Untaken.TheVariants.{Refused as Refuses}
 use Rattle.replica_store.specs.Replica.{Replica}
 use Rattle.folder_home.specs.PartReads.{IsListed, is_refusal_of_part}
 use Rattle.folder_home.specs.Parts.{PartForm, OpensParts}
 use Rattle.folder_home.specs.Skims.{SkimsPart, SkimsParts}
-use Rattle.folder_home.specs.declared.fault.PartFault as fault
 use Rattle.folder_home.specs.declared.fault.PartFault.{PartFault}
+use Rattle.folder_home.specs.declared.fault.PartFault.TheVariants.{Refused}
 use Rattle.folder_home.specs.declared.fault.PartRefusal.{PartRefusal}
 use Rattle.folder_commands.specs.Joined.{WereGiven}
 use Rattle.folder_commands.specs.Wanted.{is_wanted}
 
 -- a refusal is so, if what takes parts refused
 abbrev pub IfRefused : {E : Type 0} → Untaken E → (E → Type 0) → Type 0
-IfRefused (Refused fault) P = P fault
+IfRefused (Refuses fault) P = P fault
 IfRefused other P = Unit {0}
 
 -- the names of parts
@@ -37,7 +37,7 @@ abbrev pub AreReadUpTo : {X : Type 0} → Result X PartRefusal → List (List �
 AreReadUpTo (Ok x) read wanted = read ≡ wanted
 AreReadUpTo (Err refusal) read wanted =
     ((rest : List (List ℕ)) × (wanted ≡ read ++ rest) × (length read ≡ suc refusal.part))
-    ⊎ ((read ≡ wanted) × (refusal ≡ record { part = 0; fault = fault.TheVariants.Refused Memory }))
+    ⊎ ((read ≡ wanted) × (refusal.part ≡ 0) × (refusal.fault ≡ Refused Memory))
 
 -- Parts were read by the calls between two histories, one under each name that is wanted, or up to one that is refused. If those that were
 -- read are whole, and all of them hold a replica, a load under given names is answered from what came of them as from that replica.
@@ -80,7 +80,7 @@ SkimsOne had result first count name before after =
     (bytes : List ℕ) × HasCall (Finds name bytes) before after × SkimsMore had result first count (record { name = name; bytes = bytes })
 
 -- Parts of these names were read, so many, and this is what was read of them.
-pub record AreRead (skim : Option (Replica × ℕ)) (many : ℕ) (first : BatchName) (count : ℕ) (names : List (List ℕ)) (before after : List Call) : Type 0 where
+pub record AreSkimmedSoFar (skim : Option (Replica × ℕ)) (many : ℕ) (first : BatchName) (count : ℕ) (names : List (List ℕ)) (before after : List Call) : Type 0 where
   pub parts : List PartForm
   pub found : AreFound parts before after
   pub named : names_of parts ≡ names
@@ -88,7 +88,7 @@ pub record AreRead (skim : Option (Replica × ℕ)) (many : ℕ) (first : BatchN
   pub enough : IsSkimOf skim first count parts
 
 -- Parts were read, and the last one is refused: those of the names that are wanted up to it, of which the place is told.
-pub record StopsAt (refusal : PartRefusal) (wanted : List (List ℕ)) (first : BatchName) (count : ℕ) (before after : List Call) : Type 0 where
+pub record StopsSkimming (refusal : PartRefusal) (wanted : List (List ℕ)) (first : BatchName) (count : ℕ) (before after : List Call) : Type 0 where
   pub parts : List PartForm
   pub rest : List (List ℕ)
   pub found : AreFound parts before after

@@ -6,7 +6,7 @@ ghost use Rattle.folder_protocol.specs.Taking.{UntakenCause};
 ghost use Rattle.folder_home.specs.Covers.{folder_parts};
 ghost use Rattle.folder_home.specs.PartReads.{IsListed, is_refusal_of_part};
 ghost use Rattle.folder_commands.specs.Joined.{AreUnwanted, WereGiven};
-ghost use Rattle.folder_commands.specs.Skims.{IfRefused, AreSkimmed, IsSkimRefused, SkimsMore, SkimsOne, AreRead, StopsAt};
+ghost use Rattle.folder_commands.specs.Skims.{IfRefused, AreSkimmed, IsSkimRefused, SkimsMore, SkimsOne, AreSkimmedSoFar, StopsSkimming};
 ghost use Rattle.folder_commands.specs.Wanted.{is_wanted};
 
 use crate::reading::refused;
@@ -76,8 +76,8 @@ fn skim_each<F: Folder>(
 ) -> Result<Option<Skim>, Untaken<PartRefusal>>
     ensures in_turn { GoesInTurn folder_parts (F.history folder.old) (F.history folder.new) }
     ensures listing { listing_of (F.history folder.new) ≡ listing_of (F.history folder.old) }
-    ensures read { IfOk result (λ answer. (many : ℕ) × AreRead answer many names.first names.count (filter (is_wanted (map string_bytes passed.now)) (map string_bytes listed.now)) (F.history folder.old) (F.history folder.new)) }
-    ensures refused { IfErr result (λ fault. IfRefused fault (λ refusal. StopsAt refusal (filter (is_wanted (map string_bytes passed.now)) (map string_bytes listed.now)) names.first names.count (F.history folder.old) (F.history folder.new))) }
+    ensures read { IfOk result (λ answer. (many : ℕ) × AreSkimmedSoFar answer many names.first names.count (filter (is_wanted (map string_bytes passed.now)) (map string_bytes listed.now)) (F.history folder.old) (F.history folder.new)) }
+    ensures refused { IfErr result (λ fault. IfRefused fault (λ refusal. StopsSkimming refusal (filter (is_wanted (map string_bytes passed.now)) (map string_bytes listed.now)) names.first names.count (F.history folder.old) (F.history folder.new))) }
     ensures cause { IfErr result (λ fault. UntakenCause fault (F.history folder.old) (F.history folder.new)) }
 {
     let mut skim = None;
