@@ -7,6 +7,8 @@ mod joiner;
 mod packing;
 mod reading;
 mod replacing;
+mod skimming;
+mod sweeping;
 mod taken;
 mod wanted;
 
@@ -14,3 +16,5 @@ pub use forgetting::{Forgot, forget};
 pub use packing::pack;
 pub use reading::{Read, read_folder, read_named};
 pub use replacing::Replaced;
+pub use skimming::{Skimmed, skim_folder};
+pub use sweeping::sweep;
