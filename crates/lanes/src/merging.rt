@@ -8,9 +8,9 @@ use crate::heads::{Headed, Heads};
 use crate::home::{Home, is_folder};
 use crate::host::Host;
 use crate::inputs::LazyFile;
-use crate::looks::Looks;
+use crate::rounds::Rounds;
 use crate::output::{Output, is_special, write_in_place};
-use crate::part_failures::{Unread, path_at, refused, unread_for};
+use crate::part_failures::{Unread, at_place, refused, unread_for};
 use crate::progress::{Progress, Told};
 use crate::putting::make_folder;
 use crate::said::say;
@@ -178,9 +178,9 @@ fn merged_files<R: Host>(
     names: &[&str],
     sources: &[&str],
 ) -> Result<Vec<u8>, Failure> {
-    let mut looks = Looks::new(rt);
+    let mut rounds = Rounds::new(rt);
     for _ in 0..u64::MAX {
-        let (inputs, fault) = Inputs::of(rt, names, sources, looks.is_careful())?;
+        let (inputs, fault) = Inputs::of(rt, names, sources, rounds.is_careful())?;
         let outcome = if fault.is_some() && inputs.paths.as_slice().is_empty() {
             Ok(Vec::new(rt.alloc()))
         } else {
@@ -189,7 +189,7 @@ fn merged_files<R: Host>(
         match outcome {
             Ok(bytes) => return told_last(bytes, fault),
             Err(why) => {
-                if !looks.again(rt, why)? {
+                if !rounds.again(rt, why)? {
                     break;
                 }
             }
@@ -300,7 +300,7 @@ fn merged_inputs<'r, R: Eprint + Files + Clock + AllocGlobal>(
     let fault = match reason_of(readers, at) {
         Some(PartReason::Unread(kind)) => return Err(unread_for(
             rt,
-            path_at(paths, at),
+            at_place(paths, at),
             Some(kind),
         )),
         Some(PartReason::Damaged) => PartFault::Damaged,
