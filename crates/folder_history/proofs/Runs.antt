@@ -1,7 +1,7 @@
 -- The laws, over whole runs.
 use Rattle.std.proofs.Common.{true, false, ◌≡◌, ◌≢◌, ◌⊎◌, inl, inr, ⊎_elim, ℕ, List, [], ◌∷◌, Option, Some, None, refl, sym, ◌∙◌, ap, subst}
 use Rattle.folder_history.specs.Disk.{Among, Disk, MayLead, Settles}
-use Rattle.folder_history.specs.Call.{Call, Made, Wrote, Synced, Linked, Removed, Settled, Locked, Unlocked, Began, Listed, Read, Exclusive, Shared, Done, Taken, Failed, unanswered}
+use Rattle.folder_history.specs.Call.{Call, Made, Wrote, Synced, Linked, Removed, Settled, Locked, Unlocked, Began, Listed, Read, Looked, Exclusive, Shared, Done, Taken, Failed, unanswered}
 use Rattle.folder_history.specs.Parts.{Parts, IsOrder, IsThere, IsHeld, IsSafe}
 use Rattle.folder_history.specs.Turn.{Stage, Placed, Whole, stage_of, WasSynced, IsKept, HasRead, HasReadSince, HasReadAll, InTurn, AllInTurn, Unlisted, Gave, Listing, listing_of, listing_after}
 use Rattle.folder_history.specs.World.{World, Does}
@@ -88,6 +88,7 @@ module _ (parts : Parts) (order : IsOrder parts) (Known : List ℕ → Type 0) (
   kept_before Began calls b is = inr is
   kept_before (Listed answer) calls b is = inr is
   kept_before (Read name answer) calls b is = inr is
+  kept_before (Looked name ok) calls b is = inr is
 
   settles_safe : (call : Call) (q : ℕ) (v e : World) (b : List ℕ) → call ≡ Settled true → Does q call v e → IsHeld parts v.disk b → IsSafe parts e.disk b
   settles_safe call q v e b is does held = let d : Does q (Settled true) v e = subst (λ (c : Call). Does q c v e) is does in settled parts v.disk e.disk d.0 b held
@@ -187,6 +188,7 @@ module _ (parts : Parts) (order : IsOrder parts) (Known : List ℕ → Type 0) (
   still_unlisted (Listed (Some names)) not = refl
   still_unlisted (Listed None) not = refl
   still_unlisted (Read name answer) not = refl
+  still_unlisted (Looked name ok) not = refl
 
   same_began : (q : ℕ) (call : Call) (d e : World) → NotBegan call → Does q call d e → (p : ℕ) → e.began p ≡ d.began p
   same_began q (Made name true) d e not does p = does.lists.began p
@@ -215,6 +217,7 @@ module _ (parts : Parts) (order : IsOrder parts) (Known : List ℕ → Type 0) (
   same_began q (Read name (Some (Some bytes))) d e not does p = does.lists.began p
   same_began q (Read name (Some None)) d e not does p = does.2.lists.began p
   same_began q (Read name None) d e not does p = does.1.lists.began p
+  same_began q (Looked name ok) d e not does p = does.1.lists.began p
 
   -- a process that has listed has not begun anew since
   listed_before : (q : ℕ) (call : Call) (v e : World) → NotBegan call → Calls parts q call v e → (p : ℕ) → (q ≡ p) ⊎ (q ≢ p) → (listing_of (e.calls p) ≡ Unlisted → ⊥) → listing_of (v.calls p) ≡ Unlisted → ⊥
@@ -316,6 +319,7 @@ killed parts calls Unlocked turn = tt
 killed parts calls Began turn = turn
 killed parts calls (Listed answer) turn = tt
 killed parts calls (Read name answer) turn = tt
+killed parts calls (Looked name ok) turn = tt
 
 held : SafeIsHeld
 held parts d b safe = safe d.names (λ name. inl refl)

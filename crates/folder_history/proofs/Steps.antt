@@ -3,7 +3,7 @@ use Rattle.std.proofs.Common.{◌≡◌, ◌≢◌, ◌⊎◌, inl, inr, ⊎_eli
 use Rattle.std.specs.Str.{bytes_eq}
 use Rattle.std.proofs.lemmas.Bool.{cond_both}
 use Rattle.std.proofs.lemmas.Slice.Eq.{bytes_eq-Decides}
-use Rattle.folder_history.specs.Call.{Call, Made, Wrote, Synced, Linked, Removed, Settled, Locked, Unlocked, Began, Listed, Read, Kind, Exclusive, Shared, Done, Taken, Failed, lock_of, is_clean}
+use Rattle.folder_history.specs.Call.{Call, Made, Wrote, Synced, Linked, Removed, Settled, Locked, Unlocked, Began, Listed, Read, Looked, Kind, Exclusive, Shared, Done, Taken, Failed, lock_of, is_clean}
 use Rattle.folder_history.specs.Disk.{Among, Disk, MayLead, Leads, Fills, Syncs, Settles, Restarts}
 use Rattle.folder_history.specs.Parts.{Parts, IsOrder, IsNoPart, IsThere, IsHeld, IsSafe}
 use Rattle.folder_history.specs.Turn.{Stage, Idle, Filled, Ready, Placed, Stored, Seen, Whole, Guarded, stage_of, wrote, synced, linked, settled, unguarded, HasRead, MayGo, InTurn, Listing, Unlisted, Running, Gave, listing_of, stopped, gave}
@@ -309,6 +309,7 @@ module _ (parts : Parts) (order : IsOrder parts) (Known : List ℕ → Type 0) (
     own_means (Read name (Some (Some bytes))) e turn finds = found_means name bytes e finds
     own_means (Read name (Some None)) e turn does = tt
     own_means (Read name None) e turn does = tt
+    own_means (Looked name ok) e turn does = stays_means (Looked name ok) e (stage_of parts c) does.0 does.1 refl refl (sound.means q)
 
     -- ---- the locks
 
@@ -418,6 +419,7 @@ module _ (parts : Parts) (order : IsOrder parts) (Known : List ℕ → Type 0) (
     own_apart (Read name (Some (Some bytes))) e turn finds p other first second = absurd (found_making name bytes second)
     own_apart (Read name (Some None)) e turn does p other first second = absurd second
     own_apart (Read name None) e turn does p other first second = absurd second
+    own_apart (Looked name ok) e turn does p other first second = apart_same e does.1.open_files p other first second
 
     -- ---- the listing
 
@@ -481,6 +483,7 @@ module _ (parts : Parts) (order : IsOrder parts) (Known : List ℕ → Type 0) (
     own_lists (Read name (Some (Some bytes))) e turn finds = lists_along (Read name (Some (Some bytes))) e finds.lists refl (listing_of c) (sound.lists q)
     own_lists (Read name (Some None)) e turn does = lists_along (Read name (Some None)) e does.2.lists refl (listing_of c) (sound.lists q)
     own_lists (Read name None) e turn does = lists_along (Read name None) e does.1.lists refl (listing_of c) (sound.lists q)
+    own_lists (Looked name ok) e turn does = lists_along (Looked name ok) e does.1.lists refl (listing_of c) (sound.lists q)
 
     -- ---- what was read
 

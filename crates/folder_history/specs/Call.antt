@@ -37,6 +37,8 @@ pub data Call : Type 0 where
   Listed : (answer : Option (List (List ℕ))) → Call
   -- what a name had: no file, or one with these bytes, which is the open file from now on; or the read failed
   Read : (name : List ℕ) (answer : Option (Option (List ℕ))) → Call
+  -- a name was looked at: its file was opened to be looked into, or it was asked what has the name; nothing of what was seen counts
+  Looked : (name : List ℕ) (ok : Bool) → Call
 
 -- the same call, begun and not yet answered: if a process is killed meanwhile it is the last one
 abbrev pub unanswered : Call → Call
@@ -51,6 +53,7 @@ unanswered Unlocked = Unlocked
 unanswered Began = Began
 unanswered (Listed answer) = Listed None
 unanswered (Read name answer) = Read name None
+unanswered (Looked name ok) = Looked name false
 
 -- the lock of the folder that a process has after a call, by the one that it had before; one that it did not get is none
 abbrev pub lock_after : Call → Option Kind → Option Kind

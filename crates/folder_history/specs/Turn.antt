@@ -1,6 +1,6 @@
 -- The protocol: which calls a process may make next, by its own calls so far and by nothing else.
 use Rattle.std.specs.Prelude.{◌≡◌, ◌≢◌, ◌⊎◌, ℕ, Bool, true, false, List, [], ◌∷◌, ◌++◌, Option, Some, if◌then◌else◌, bytes_eq}
-use Rattle.folder_history.specs.Call.{Call, Made, Wrote, Synced, Linked, Removed, Settled, Locked, Unlocked, Began, Listed, Read, Kind, Exclusive, Linking, Done, Taken, lock_of}
+use Rattle.folder_history.specs.Call.{Call, Made, Wrote, Synced, Linked, Removed, Settled, Locked, Unlocked, Began, Listed, Read, Looked, Kind, Exclusive, Linking, Done, Taken, lock_of}
 use Rattle.folder_history.specs.Disk.{Among}
 use Rattle.folder_history.specs.Parts.{Parts, IsNoPart}
 
@@ -71,6 +71,7 @@ stage_after parts Began lock stage = stage
 stage_after parts (Listed answer) lock stage = stage
 stage_after parts (Read name (Some (Some bytes))) lock stage = if bytes_eq name (parts.name_of bytes) then Seen bytes else Idle
 stage_after parts (Read name answer) lock stage = Idle
+stage_after parts (Looked name ok) lock stage = stage
 
 -- by all calls
 abbrev pub stage_of : Parts → List Call → Stage

@@ -1,6 +1,6 @@
 -- What an answer of the protocol comes of: calls that failed, and what calls found.
 use Rattle.std.specs.Prelude.{◌≡◌, ◌≢◌, ◌⊎◌, ℕ, false, List, [], ◌∷◌, ◌++◌, Some, None}
-use Rattle.folder_history.specs.Call.{Call, Made, Wrote, Synced, Linked, Removed, Settled, Locked, Unlocked, Began, Listed, Read, Linking, Done, Taken, Failed}
+use Rattle.folder_history.specs.Call.{Call, Made, Wrote, Synced, Linked, Removed, Settled, Locked, Unlocked, Began, Listed, Read, Looked, Linking, Done, Taken, Failed}
 use Rattle.folder_history.specs.Disk.{Among}
 use Rattle.folder_protocol.specs.declared.putting.Outcome.{Outcome}
 use Rattle.folder_protocol.specs.declared.putting.Outcome.TheVariants.{OnDisk, Unsynced, Gone, Damaged}
@@ -18,6 +18,7 @@ Fails Unlocked = ⊥
 Fails Began = ⊥
 Fails (Listed answer) = answer ≡ None
 Fails (Read name answer) = answer ≡ None
+Fails (Looked name ok) = ok ≡ false
 
 -- The sync of the open file or of the folder failed.
 abbrev pub FailsToSync : Call → Type 0

@@ -4,3 +4,5 @@ pub mod Causes
 pub mod Note
 pub mod Keeping
 pub mod Taking
+pub mod Temporary
+pub mod Sweeping

@@ -1,6 +1,6 @@
 -- How a call is noted: by numbers, of which the first says which call, the second whether it succeeded and the third what it gave; by its texts; and by the names that a listing gave.
 use Rattle.std.specs.Prelude.{ℕ, Bool, true, false, List, ◌==◌, map, take, slice_index, Option, Some, None, if◌then◌else◌}
-use Rattle.folder_history.specs.Call.{Call, Kind, Shared, Exclusive, Linking, Done, Taken, Failed, Made, Wrote, Synced, Linked, Removed, Settled, Locked, Unlocked, Began, Listed, Read}
+use Rattle.folder_history.specs.Call.{Call, Kind, Shared, Exclusive, Linking, Done, Taken, Failed, Made, Wrote, Synced, Linked, Removed, Settled, Locked, Unlocked, Began, Listed, Read, Looked}
 
 -- a call as it is noted: its numbers, its texts, and its names
 abbrev pub Noted : Type 0
@@ -41,7 +41,8 @@ call_from kind ok n first second names =
     else if kind == 7 then Unlocked
     else if kind == 8 then Began
     else if kind == 9 then Listed (names_of (ok == 1) names)
-    else Read first (answer_of n second)
+    else if kind == 10 then Read first (answer_of n second)
+    else Looked first (ok == 1)
 
 -- the call that a note is of
 abbrev pub call_of : Noted → Call

@@ -2,7 +2,7 @@
 ghost use Rattle.std.specs.Prelude.{◌≡◌, List, [], ◌∷◌, Some, None, true, false, take, map};
 ghost use Rattle.std.specs.String.{string_bytes};
 ghost use Rattle.std.specs.Borrow.{ftrue};
-ghost use Rattle.folder_history.specs.Call.{Made, Wrote, Synced, Linked, Removed, Settled, Locked, Unlocked, Began, Listed, Read, Exclusive, Shared, Done, Taken, Failed};
+ghost use Rattle.folder_history.specs.Call.{Made, Wrote, Synced, Linked, Removed, Settled, Locked, Unlocked, Began, Listed, Read, Looked, Exclusive, Shared, Done, Taken, Failed};
 ghost use Rattle.folder_protocol.specs.Note.{Noted, calls_of};
 
 use std::marker::{Model, PhantomData};
@@ -29,6 +29,8 @@ const BEGAN: u64 = 8;
 const LISTED: u64 = 9;
 
 const READ: u64 = 10;
+
+const LOOKED: u64 = 11;
 
 // What came of a link.
 const DONE: u64 = 0;
@@ -218,5 +220,16 @@ impl Record {
         ensures { calls_of self.new.noted ≡ Read name.now None ∷ calls_of self.old.noted }
     {
         self.note(&[READ, 0, 0], name.as_bytes(), &[]);
+    }
+
+    /// A name was looked at, or could not be.
+    pub fn looked(&mut self, name: &str, ok: bool)
+        ensures { calls_of self.new.noted ≡ Looked name.now ok ∷ calls_of self.old.noted }
+    {
+        if ok {
+            self.note(&[LOOKED, 1, 0], name.as_bytes(), &[]);
+        } else {
+            self.note(&[LOOKED, 0, 0], name.as_bytes(), &[]);
+        }
     }
 }

@@ -1,7 +1,7 @@
 -- Which calls of a folder's history are asked for and told.
 use Rattle.std.specs.Prelude.{ℕ, Bool, true, false, List, [], ◌∷◌, ◌++◌, map, take, drop, length, leb, if◌then◌else◌, Option, Some, None}
 use Rattle.std.specs.String.{string_bytes}
-use Rattle.folder_history.specs.Call.{Call, Made, Wrote, Synced, Linked, Removed, Settled, Locked, Unlocked, Began, Listed, Read, Exclusive, Shared, Linking, Done, Taken, Failed}
+use Rattle.folder_history.specs.Call.{Call, Made, Wrote, Synced, Linked, Removed, Settled, Locked, Unlocked, Began, Listed, Read, Looked, Exclusive, Shared, Linking, Done, Taken, Failed}
 use Rattle.folder_replay.specs.declared.request.Request.{Request}
 use Rattle.folder_replay.specs.declared.request.Request.TheVariants.{Make, Write, Sync, Link, Remove, Settle, Lock, LockShared, ListNames, Unlock, ReadFile}
 use Rattle.folder_replay.specs.declared.wanted.Wanted.{Wanted}
@@ -78,6 +78,7 @@ answered Unlocked answer = Unlocked ∷ []
 answered Began answer = Listed (names_of answer) ∷ Began ∷ []
 answered (Listed names) answer = []
 answered (Read name ok) answer = Read name (found_of answer) ∷ []
+answered (Looked name ok) answer = []
 
 -- the history after some calls were told, the oldest of them first
 abbrev pub calls_after : List ℕ → List Told → List Call → List Call

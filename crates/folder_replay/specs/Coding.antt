@@ -1,7 +1,7 @@
 -- A code of calls, by which a struct may say that two histories are equal.
 use Rattle.std.specs.Prelude.{◌≡◌, refl, ◌==◌, if◌then◌else◌, ℕ, Bool, true, List, [], Option, None}
 use Rattle.std.specs.Coded.{Coded, code_by, coded_ℕ, coded_list, coded×, coded_bool, coded_option}
-use Rattle.folder_history.specs.Call.{Call, Made, Wrote, Synced, Linked, Removed, Settled, Locked, Unlocked, Began, Listed, Read, Exclusive, Shared, Done, Taken, Failed}
+use Rattle.folder_history.specs.Call.{Call, Made, Wrote, Synced, Linked, Removed, Settled, Locked, Unlocked, Began, Listed, Read, Looked, Exclusive, Shared, Done, Taken, Failed}
 
 -- a number, a truth value, two texts, names, and what was found
 abbrev Shape : Type 0
@@ -23,6 +23,7 @@ shape Unlocked = (10, (true, ([], ([], (None, None)))))
 shape Began = (11, (true, ([], ([], (None, None)))))
 shape (Listed names) = (12, (true, ([], ([], (names, None)))))
 shape (Read name found) = (13, (true, (name, ([], (None, found)))))
+shape (Looked name ok) = (14, (ok, (name, ([], (None, None)))))
 
 -- the call of these numbers, texts and names
 abbrev by_number : ℕ → Bool → List ℕ → List ℕ → Option (List (List ℕ)) → Option (Option (List ℕ)) → Call
@@ -40,7 +41,8 @@ by_number n ok first second names found =
     else if n == 10 then Unlocked
     else if n == 11 then Began
     else if n == 12 then Listed names
-    else Read first found
+    else if n == 13 then Read first found
+    else Looked first ok
 
 -- the call of a shape
 abbrev call : Shape → Call
@@ -62,6 +64,7 @@ call_shape Unlocked = refl
 call_shape Began = refl
 call_shape (Listed names) = refl
 call_shape (Read name found) = refl
+call_shape (Looked name ok) = refl
 
 -- a call is coded by its shape, from which it can be had again
 abbrev pub coded_call : Coded Call

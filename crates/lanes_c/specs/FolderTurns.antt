@@ -1,6 +1,6 @@
 -- What the calls that drive a folder tell.
 use Rattle.std.specs.Prelude.{◌≡◌, ◌≢◌, ◌⊎◌, ℕ, ◌<◌, ◌==◌, if◌then◌else◌, List, [], ◌++◌, ◌∷◌, drop, length, MatchOption, Option, Some, None, Result, Ok, Err}
-use Rattle.folder_history.specs.Call.{Call, Made, Wrote, Synced, Linked, Removed, Settled, Locked, Unlocked, Began, Listed, Read, Exclusive, Shared}
+use Rattle.folder_history.specs.Call.{Call, Made, Wrote, Synced, Linked, Removed, Settled, Locked, Unlocked, Began, Listed, Read, Looked, Exclusive, Shared}
 use Rattle.folder_history.specs.Parts.{Parts}
 use Rattle.folder_history.specs.Turn.{IsStored}
 use Rattle.folder_home.specs.PartName.{part_name}
@@ -67,6 +67,7 @@ IsAsked Began part call names = call.kind ≡ 9
 IsAsked (Read name answer) part call names = (call.kind ≡ 10) × (names ≡ name)
 IsAsked Unlocked part call names = call.kind ≡ 11
 IsAsked (Listed answer) part call names = ⊥
+IsAsked (Looked name ok) part call names = ⊥
 
 -- whether an answer says that the call failed
 abbrev pub SaysFailed : Answer → Type 0

@@ -14,5 +14,4 @@ mod temporary;
 pub use fault::FolderFault;
 pub use making::{MakeFault, make};
 pub use names::{is_link, path_in, temporary_name};
-pub use sweeping::sweep;
 pub use system::SystemFolder;

@@ -1,10 +1,8 @@
 //! The names in a folder.
 
 use crate::fault::FolderFault;
-use crate::lock::FolderLock;
 use std::fs::{self, File, Files};
 use std::io::{self, ErrorKind};
-use std::rt::Clock;
 
 /// The names that a folder has, in ascending order, each once.
 #[derive(Drop)]
@@ -14,11 +12,6 @@ pub struct Listing {
 }
 
 impl Listing {
-    /// The names, in ascending order.
-    pub fn names(&self) -> &[String] {
-        self.names.as_slice()
-    }
-
     /// The names, in ascending order.
     pub fn into_names(self) -> Vec<String> {
         self.names
@@ -30,24 +23,8 @@ impl Listing {
     }
 }
 
-/// The names in a folder, listed twice under its shared lock: those of both listings. No file is removed meanwhile by who takes the
-/// exclusive lock for it, so each file that was there before is among them. If the file system has no locks of folders it is listed
-/// without.
-///
-/// Refused are a folder that can't be opened or listed, and `Busy` if another has had the lock for ten seconds.
-pub fn list<R: Files<File = File> + Clock + AllocGlobal + Clone + Drop>(
-    rt: &R,
-    folder: &str,
-) -> Result<Listing, FolderFault> {
-    let lock = FolderLock::shared(rt, folder)?;
-    let listing = list_locked(rt, folder);
-    if let Some(lock) = lock {
-        lock.release();
-    }
-    listing
-}
-
-/// The same, by who has a lock of the folder already.
+/// The names in a folder, listed twice: those of both listings. Under a lock of the folder no file is removed meanwhile by who takes the
+/// exclusive lock for it, so each file that was there before is among them.
 pub fn list_locked<R: Files<File = File> + AllocGlobal + Clone + Drop>(
     rt: &R,
     folder: &str,

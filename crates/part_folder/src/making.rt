@@ -1,14 +1,17 @@
 //! A folder that is made at once, with one file in it.
 
-use crate::names::{path_in, unfinished_name};
-use crate::sweeping::sweep_unfinished;
+use crate::names::{path_in, temporary_name, unfinished_name};
+use crate::sweeping::{remove_unfinished, sweep_unfinished};
+use crate::system::SystemFolder;
 use crate::temporary::is_ours;
+use folder_protocol::{Outcome, put};
 use std::alloc::AllocError;
 use std::error::Error;
 use std::fmt;
-use std::fs::{self, File, Files, OpenOptions};
-use std::io::{self, ErrorKind, Write};
+use std::fs::{self, File, Files};
+use std::io::{self, ErrorKind};
 use std::random::RandomSource;
+use std::rt::Clock;
 
 /// Why a folder was not made.
 #[derive(Clone, Copy, Debug, PartialEq, Eq)]
@@ -45,10 +48,11 @@ impl Error for MakeFault {}
 /// How many names are tried for a folder that is made. Each is new, so another one is wanted only if a sweep came between.
 const TRIES: u32 = 100;
 
-/// Makes a folder that has one file, of this name and with these bytes: all at once, on the disk, or not at all. It is made next to its
-/// place as `.NAME.lanes-new-` and 16 digits. A crash may leave that, and the next call of the same name removes it. Slashes at the end
-/// of the folder's name say nothing. Answers whether the folder that it is in could be synced.
-pub fn make<R: Files<File = File> + RandomSource + AllocGlobal + Clone + Drop>(
+/// Makes a folder that has one part, of this name and with these bytes: all at once, on the disk, or not at all. It is made next to its
+/// place as `.NAME.lanes-new-` and 16 digits, and the part is put into that by the calls of the protocol. A crash may leave that, and the
+/// next call of the same name removes it. Slashes at the end of the folder's name say nothing. Answers whether the folder that it is in
+/// could be synced.
+pub fn make<R: Files<File = File> + Clock + RandomSource + AllocGlobal + Clone + Drop>(
     rt: &R,
     folder: &str,
     file: &str,
@@ -64,17 +68,15 @@ pub fn make<R: Files<File = File> + RandomSource + AllocGlobal + Clone + Drop>(
         Some((above, last)) => (above, last),
     };
     let outer = fs::open(rt, above)?;
-    let (held, new) = made(rt, above, last)?;
-    let path = path_in(rt.alloc(), new.as_str(), file)?;
-    match filled(rt, &held, path.as_str(), bytes).and_then(|_| fs::rename(rt, new.as_str(), name)) {
+    let (_held, new) = made(rt, above, last)?;
+    match filled(rt, new.as_str(), file, bytes).and_then(|_| fs::rename(rt, new.as_str(), name)) {
         Ok(()) => {
             let is_synced = outer.sync_all().is_ok();
             let _ = sweep_unfinished(rt, above, last);
             Ok(is_synced)
         }
         Err(error) => {
-            let _ = fs::remove_file(rt, path.as_str());
-            let _ = fs::remove_dir(rt, new.as_str());
+            let _ = remove_unfinished(rt, new.as_str());
             Err(fault_of(&error))
         }
     }
@@ -116,20 +118,20 @@ fn held<R: Files<File = File>>(rt: &R, path: &str) -> io::Result<Option<File>> {
     }
 }
 
-/// Makes a file in a folder that is open, and has both on the disk.
-fn filled<R: Files<File = File>>(
+/// Puts a part into a folder that was just made, and has both on the disk.
+fn filled<R: Files<File = File> + Clock + RandomSource + AllocGlobal + Clone + Drop>(
     rt: &R,
-    folder: &File,
-    path: &str,
+    folder: &str,
+    name: &str,
     bytes: &[u8],
 ) -> io::Result<()> {
-    let mut file = OpenOptions::new()
-        .write(true)
-        .create_new(true)
-        .open(rt, path)?;
-    file.write_all(bytes)?;
-    file.sync_all()?;
-    folder.sync_all()
+    let mut system = SystemFolder::open(rt, folder)?;
+    let temporary = temporary_name(rt)?;
+    match put(rt.alloc(), &mut system, temporary.as_str(), name, bytes)? {
+        Outcome::OnDisk => Ok(()),
+        Outcome::Unsynced => Err(io::Error::from(system.unsynced().unwrap_or(ErrorKind::Other))),
+        Outcome::Gone | Outcome::Damaged => Err(io::Error::from(ErrorKind::AlreadyExists)),
+    }
 }
 
 /// What an error of the rename means: a folder that is not empty, or a file, has the name meanwhile.

@@ -1,18 +1,13 @@
 //! Names in a folder, and those of temporaries.
 
+use folder_protocol::{TEMPORARY, are_digits};
 use std::alloc::{AllocError, Global};
 use std::fs::{self, Files};
 use std::io;
 use std::random::RandomSource;
 
-/// How the name of a temporary begins.
-const TEMPORARY: &str = ".part-";
-
 /// How the name of a folder that is made ends, after a point and the name that it is to have.
 const UNFINISHED: &str = ".lanes-new-";
-
-/// How many digits follow.
-const DIGITS: usize = 16;
 
 /// The digits.
 const HEX: [char; 16] = [
@@ -48,17 +43,6 @@ pub fn temporary_name<R: RandomSource + AllocGlobal>(rt: &R) -> io::Result<Strin
     Ok(name)
 }
 
-/// Whether a name is that of a temporary: `.part-` and 16 digits of `0` to `9` and `a` to `f`.
-pub fn is_temporary(name: &str) -> bool {
-    name.strip_prefix(TEMPORARY).is_some_and(are_digits)
-}
-
-/// Whether these are 16 digits of `0` to `9` and `a` to `f`.
-fn are_digits(digits: &str) -> bool {
-    digits.len() == DIGITS
-        && digits.bytes().all(|byte| byte.is_ascii_digit() || (b'a' <= byte && byte <= b'f'))
-}
-
 /// A new name under which a folder of this name is made.
 pub fn unfinished_name<R: RandomSource + AllocGlobal>(rt: &R, last: &str) -> io::Result<String> {
     let digits = random_digits(rt)?;
@@ -73,7 +57,8 @@ pub fn is_unfinished(name: &str, last: &str) -> bool {
     let Some(rest) = rest.strip_prefix(last) else {
         return false;
     };
-    rest.strip_prefix(UNFINISHED).is_some_and(are_digits)
+    rest.strip_prefix(UNFINISHED)
+        .is_some_and(|digits| are_digits(digits.as_bytes()))
 }
 
 /// Whether a path is that of a symbolic link.

@@ -4,12 +4,12 @@ ghost use Rattle.std.specs.Prelude.{◌≡◌, ◌≤◌, [], IfOk, length};
 ghost use Rattle.folder_protocol.specs.Note.{calls_of};
 
 use crate::fault::FolderFault;
-use crate::keeping::open_plain;
+use crate::keeping::{find, open_if_there, open_to_look};
 use crate::listing::list_locked;
 use crate::lock::FolderLock;
-use crate::names::{is_link, path_in};
-use crate::temporary::{is_ours, link_or_rename};
-use folder_protocol::{Folder, Record};
+use crate::names::path_in;
+use crate::temporary::{is_ours, link_or_rename, remove_unheld};
+use folder_protocol::{Folder, Found, Looks, Opened, Record, Sweeps};
 use std::alloc::Global;
 use std::fs::{self, File, Files, OpenOptions};
 use std::io::{self, ErrorKind, Read, Write};
@@ -25,6 +25,7 @@ pub struct SystemFolder<'r, R: Files<File = File>> {
     lock: Option<FolderLock>,
     fault: Option<FolderFault>,
     unread: Option<String>,
+    unsynced: Option<ErrorKind>,
     unreadable: usize,
     calls: Record,
 }
@@ -43,6 +44,7 @@ impl<'r, R: Files<File = File> + AllocGlobal> SystemFolder<'r, R> {
             lock: None,
             fault: None,
             unread: None,
+            unsynced: None,
             unreadable: 0,
             calls: Record::new(),
         })
@@ -56,6 +58,7 @@ impl<'r, R: Files<File = File>> SystemFolder<'r, R> {
     {
         self.fault = None;
         self.unread = None;
+        self.unsynced = None;
     }
 
     /// Why its lock was not got or its names were not listed, if that was tried last and failed. That a name is removed then, or the
@@ -70,6 +73,11 @@ impl<'r, R: Files<File = File>> SystemFolder<'r, R> {
             Some(name) => Some(name.as_str()),
             None => None,
         }
+    }
+
+    /// Why its open file or the folder could not be synced, if that was tried last and failed.
+    pub fn unsynced(&self) -> Option<ErrorKind> {
+        self.unsynced
     }
 
     /// How many names the last listing left out, since they are not UTF-8.
@@ -138,16 +146,48 @@ fn read_in<R: Files<File = File> + AllocGlobal>(
     name: &str,
 ) -> io::Result<Option<(File, Vec<u8>)>> {
     let path = path_in(rt.alloc(), folder, name)?;
-    match open_plain(rt, path.as_str()) {
-        Ok(mut file) => {
-            let mut bytes = Vec::new(alloc);
-            file.read_to_end(&mut bytes)?;
-            Ok(Some((file, bytes)))
-        }
-        Err(error) if error.kind() == ErrorKind::NotFound && !is_link(rt, path.as_str()) => {
-            Ok(None)
-        }
-        Err(error) => Err(error),
+    let Some(mut file) = open_if_there(rt, path.as_str())? else {
+        return Ok(None);
+    };
+    let mut bytes = Vec::new(alloc);
+    file.read_to_end(&mut bytes)?;
+    Ok(Some((file, bytes)))
+}
+
+/// Removes a name from a folder, unless a process holds its file, or it is no plain file; and whether it did.
+fn swept<R: Files<File = File> + AllocGlobal>(
+    rt: &R,
+    folder: &str,
+    name: &str,
+) -> io::Result<bool> {
+    let path = path_in(rt.alloc(), folder, name)?;
+    match remove_unheld(rt, path.as_str()) {
+        Err(error) if error.kind() == ErrorKind::NotFound => Ok(false),
+        answer => answer,
+    }
+}
+
+/// What has a name in a folder.
+fn found_in<R: Files + AllocGlobal>(rt: &R, folder: &str, name: &str) -> io::Result<Found> {
+    let path = path_in(rt.alloc(), folder, name)?;
+    find(rt, path.as_str())
+}
+
+/// Opens the file of a name in a folder to look into it, if there is one.
+fn opened_in<R: Files<File = File> + AllocGlobal>(
+    rt: &R,
+    folder: &str,
+    name: &str,
+) -> io::Result<Option<Opened<File>>> {
+    let path = path_in(rt.alloc(), folder, name)?;
+    open_to_look(rt, path.as_str())
+}
+
+/// Why a call failed, if it did.
+fn kind_of(answer: &io::Result<()>) -> Option<ErrorKind> {
+    match answer {
+        Ok(()) => None,
+        Err(error) => Some(error.kind()),
     }
 }
 
@@ -195,6 +235,7 @@ impl<'r, R: Files<File = File> + Clock + AllocGlobal + Clone + Drop> Folder
     fn sync(&mut self) -> io::Result<()> {
         self.begin();
         let answer = opened(&self.file).and_then(|file| file.sync_all());
+        self.unsynced = kind_of(&answer);
         self.calls.synced(answer.is_ok());
         answer
     }
@@ -219,6 +260,7 @@ impl<'r, R: Files<File = File> + Clock + AllocGlobal + Clone + Drop> Folder
     fn settle(&mut self) -> io::Result<()> {
         self.begin();
         let answer = self.folder.sync_all();
+        self.unsynced = kind_of(&answer);
         self.calls.settled(answer.is_ok());
         answer
     }
@@ -294,6 +336,43 @@ impl<'r, R: Files<File = File> + Clock + AllocGlobal + Clone + Drop> Folder
             Err(error) => {
                 self.unread = String::from_str(alloc, name).ok();
                 self.calls.unread(name);
+                Err(error)
+            }
+        }
+    }
+}
+
+impl<'r, R: Files<File = File> + Clock + AllocGlobal + Clone + Drop> Looks for SystemFolder<'r, R> {
+    type File = File;
+
+    fn find(&mut self, name: &str) -> io::Result<Found> {
+        self.begin();
+        let answer = found_in(self.rt, self.path.as_str(), name);
+        self.calls.looked(name, answer.is_ok());
+        answer
+    }
+
+    fn open(&mut self, name: &str) -> io::Result<Option<Opened<File>>> {
+        self.begin();
+        let answer = opened_in(self.rt, self.path.as_str(), name);
+        if answer.is_err() {
+            self.unread = String::from_str(self.rt.alloc(), name).ok();
+        }
+        self.calls.looked(name, answer.is_ok());
+        answer
+    }
+}
+
+impl<'r, R: Files<File = File> + Clock + AllocGlobal + Clone + Drop> Sweeps
+    for SystemFolder<'r, R> {
+    fn sweep(&mut self, name: &str) -> io::Result<()> {
+        match swept(self.rt, self.path.as_str(), name) {
+            Ok(is_removed) => {
+                self.calls.removed(name, is_removed);
+                Ok(())
+            }
+            Err(error) => {
+                self.calls.removed(name, false);
                 Err(error)
             }
         }

@@ -20,6 +20,19 @@ pub fn is_named<R: Files>(rt: &R, file: &File, path: &str) -> bool {
     open.ino() == named.ino() && open.dev() == named.dev()
 }
 
+/// Removes a path, if it is that of a plain file whose lock is to be had; and whether it did.
+pub fn remove_unheld<R: Files<File = File>>(rt: &R, path: &str) -> io::Result<bool> {
+    if !fs::symlink_metadata(rt, path)?.is_file() {
+        return Ok(false);
+    }
+    let file = fs::open(rt, path)?;
+    if file.try_lock().is_err() || !is_named(rt, &file, path) {
+        return Ok(false);
+    }
+    fs::remove_file(rt, path)?;
+    Ok(true)
+}
+
 /// Gives the file of one path another path by a hard link, unless something has that, and answers whether it did. If the file system
 /// has no hard links the file is renamed.
 pub fn link_or_rename<R: Files>(rt: &R, from: &str, to: &str) -> io::Result<bool> {

@@ -1,0 +1,17 @@
+-- What a sweep has done.
+use Rattle.std.specs.Prelude.{◌≡◌, ℕ, true, List}
+use Rattle.folder_history.specs.Call.{Call, Removed}
+use Rattle.folder_history.specs.Disk.{Among}
+use Rattle.folder_history.specs.Turn.{Gave, listing_of}
+use Rattle.folder_protocol.specs.Causes.{HasCall}
+use Rattle.folder_protocol.specs.Temporary.{is_temporary}
+
+-- the call was to remove this name
+abbrev pub Tries : List ℕ → Call → Type 0
+Tries name (Removed other ok) = other ≡ name
+Tries name call = ⊥
+
+-- A listing gave some names, and each of them that is a temporary's was to be removed.
+abbrev pub HasSwept : List Call → List Call → Type 0
+HasSwept before after =
+    (names : List (List ℕ)) × (listing_of after ≡ Gave names) × ((name : List ℕ) → Among name names → is_temporary name ≡ true → HasCall (Tries name) before after)
