@@ -1,3 +1,4 @@
 pub mod Joined
 pub mod Wanted
+pub mod Skims
 pub mod Replacing

@@ -7,6 +7,7 @@ mod joiner;
 mod packing;
 mod reading;
 mod replacing;
+mod skimming;
 mod taken;
 mod wanted;
 
@@ -14,3 +15,4 @@ pub use forgetting::{Forgot, forget};
 pub use packing::pack;
 pub use reading::{Read, read_folder, read_named};
 pub use replacing::Replaced;
+pub use skimming::{Skimmed, skim_folder};

@@ -29,4 +29,4 @@ pub use part::Part;
 pub use part_naming::{is_part, is_part_name, part_name};
 pub use room::check_room;
 pub use skimmed_part::LoadNames;
-pub use skimming::{SkimmedParts, skim_parts};
+pub use skimming::{Skim, SkimmedParts};

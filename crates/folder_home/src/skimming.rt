@@ -1,22 +1,21 @@
 //! What of a folder's parts is read for a load under given names: of the parts that have a batch of such a name all that they hold, and
 //! of the others their deletions alone.
-ghost use Rattle.std.specs.Prelude.{◌≡◌, ◌∷◌, ℕ, ◌+◌, ◌≤◌, List, Decides, IfOk, IfErr, IsTrue, Ok};
+ghost use Rattle.std.specs.Prelude.{◌≡◌, ℕ, ◌+◌, ◌≤◌, Decides, IfOk, IfErr, IsTrue, Ok};
 ghost use Rattle.table_model.specs.Reading.{Reads};
+ghost use Rattle.table_model.specs.declared.names.BatchName.{BatchName};
 ghost use Rattle.table_model.specs.declared.refusal.Refusal.TheVariants.{Memory};
-ghost use Rattle.replica_commands.specs.Commands.{merged_with};
 ghost use Rattle.replica_reading.specs.Held.{held_in};
 ghost use Rattle.replica_store.specs.Replica.{Replica, batch_limit, merged};
-ghost use Rattle.folder_home.specs.PartReads.{EndsPart, EndsOthers, EndsAll, EndsParts, IsListed, is_refusal_of_part, is_refusal_of_parts};
-ghost use Rattle.folder_home.specs.Parts.{PartForm, IsPart, AreParts, IsWhole, AreWhole, OpensParts, bytes_of};
-ghost use Rattle.folder_home.specs.Skims.{IsEnough, IsUnreadPart, SkimsPart, SkimsAll, SkimsParts};
+ghost use Rattle.folder_home.specs.PartReads.{IsListed, is_refusal_of_part};
+ghost use Rattle.folder_home.specs.Parts.{IsWhole};
+ghost use Rattle.folder_home.specs.Skims.{AnswersLoads, IsEnough, IsUnreadPart, SkimsPart};
 
-use crate::fault::{PartFault, PartRefusal};
-use crate::part::Part;
+use crate::fault::PartFault;
 use crate::part_naming::is_part;
 use crate::skimmed_part::{LoadNames, SkimmedPart, skim_part};
 use replica_store::{Joined, MAX_BATCHES, Store};
 use std::alloc::Global;
-use std::io::Read;
+use std::marker::Model;
 use table_model::Refusal;
 
 /// What was read of all parts of a folder for a load under given names.
@@ -37,11 +36,24 @@ impl SkimmedParts {
     }
 }
 
-/// What was read of some parts.
+/// What is read of parts that come one after another, for a load under given names: of a part that has a batch of such a name all that it
+/// holds, and of any other its deletions alone. Contracts see the replica that has what was read, and how many batches the parts have.
 #[derive(Drop)]
-struct Skim {
+pub struct Skim {
     joined: Joined,
     batches: u64,
+}
+
+impl Model for Skim {
+    ghost use Rattle.std.specs.Prelude.{ℕ};
+    ghost use Rattle.std.specs.Coded.{coded×, coded_ℕ};
+    ghost use Rattle.replica_store.specs.Replica.{Replica, coded_replica};
+
+    ghost Value = { Replica × ℕ };
+
+    ghost coded = { coded× coded_replica coded_ℕ };
+
+    ghost view = { λ s. (s.joined.replica, s.batches) };
 }
 
 /// The fault of a part that can't be joined: `Damaged`, if its name is that of other bytes.
@@ -58,9 +70,9 @@ fn fault_of(alloc: Global, name: &str, bytes: &[u8], refusal: Refusal) -> PartFa
 
 impl Skim {
     /// What was read of one part.
-    fn new(alloc: Global, part: SkimmedPart) -> Result<Skim, Refusal>
-        ensures value { IfOk result (λ skim. skim.joined.replica ≡ part.store.replica) }
-        ensures count { IfOk result (λ skim. skim.batches ≡ part.batches) }
+    fn of(alloc: Global, part: SkimmedPart) -> Result<Skim, Refusal>
+        ensures value { IfOk result (λ skim. skim.0 ≡ part.store.replica) }
+        ensures count { IfOk result (λ skim. skim.1 ≡ part.batches) }
         ensures refused { IfErr result (λ e. e ≡ Memory) }
     {
         let SkimmedPart { store, batches } = part;
@@ -71,10 +83,10 @@ impl Skim {
         })
     }
 
-    /// The same with a further part.
+    /// The same with what was read of a further part.
     fn with(self, alloc: Global, part: SkimmedPart) -> Result<Skim, Refusal>
-        ensures value { Reads (λ skim. (tt, skim.joined.replica)) result (merged self.joined.replica part.store.replica) }
-        ensures count { IfOk result (λ skim. (n : ℕ) → n ≤ self.batches + part.batches → n ≤ batch_limit → n ≤ skim.batches) }
+        ensures value { Reads (λ skim. (tt, skim.0)) result (merged self.0 part.store.replica) }
+        ensures count { IfOk result (λ skim. (n : ℕ) → n ≤ self.1 + part.batches → n ≤ batch_limit → n ≤ skim.1) }
     {
         let Skim { joined, batches } = self;
         let joined = joined.with(alloc, part.store)?;
@@ -84,25 +96,36 @@ impl Skim {
         })
     }
 
-    /// What is read of a part of this name.
-    fn of_part(alloc: Global, name: &str, bytes: &[u8], names: LoadNames) -> Result<Skim, PartFault>
-        ensures skimmed { (r : Replica) → IsWhole (record { name = name.now; bytes = bytes.now }) → held_in bytes.now ≡ Ok r → SkimsPart (λ skim. skim.joined.replica) (λ skim. skim.batches) result names.first names.count r }
+    /// What is read of one part of this name. If it has no batch of the load's names it is skimmed: it isn't compared with its name, and
+    /// a fault of its values is not seen.
+    ///
+    /// Refused is, of a part that has one or that can't be skimmed, what [`Join::new`](crate::Join::new) refuses.
+    pub fn new(alloc: Global, name: &str, bytes: &[u8], names: LoadNames) -> Result<Skim, PartFault>
+        // What is read of a part that is whole is enough of it.
+        ensures skimmed { (r : Replica) → IsWhole (record { name = name.now; bytes = bytes.now }) → held_in bytes.now ≡ Ok r → SkimsPart (λ skim. skim.0) (λ skim. skim.1) result names.first names.count r }
+        // Which refusals there are.
         ensures listed { IfErr result (λ fault. IsListed is_refusal_of_part fault) }
     {
         let part = skim_part(alloc, name, bytes, names)?;
-        let skim = Skim::new(alloc, part)?;
+        let skim = Skim::of(alloc, part)?;
         Ok(skim)
     }
 
     /// The same with what is read of a further part of this name.
-    fn with_part(
+    ///
+    /// Refused are, of a part that has one of the load's names or that can't be skimmed, what [`Join::new`](crate::Join::new) refuses;
+    /// and given the parts before it `Damaged` and `SchemaDiffers`, and of what was opened `Conflict` and `Full`. `Memory` may come in
+    /// the place of any of them.
+    pub fn with_part(
         self,
         alloc: Global,
         name: &str,
         bytes: &[u8],
         names: LoadNames,
     ) -> Result<Skim, PartFault>
-        ensures skimmed { (held r new : Replica) → IsWhole (record { name = name.now; bytes = bytes.now }) → held_in bytes.now ≡ Ok r → merged held r ≡ Ok (tt, new) → IsEnough names.first names.count self.joined.replica self.batches held → SkimsPart (λ skim. skim.joined.replica) (λ skim. skim.batches) result names.first names.count new }
+        // If what was read of the parts before is enough of them, it is enough of all with this one, if that is whole.
+        ensures skimmed { (held r new : Replica) → IsWhole (record { name = name.now; bytes = bytes.now }) → held_in bytes.now ≡ Ok r → merged held r ≡ Ok (tt, new) → IsEnough names.first names.count self.0 self.1 held → SkimsPart (λ skim. skim.0) (λ skim. skim.1) result names.first names.count new }
+        // Which refusals there are.
         ensures listed { IfErr result (λ fault. IsListed is_refusal_of_part fault) }
     {
         let part = skim_part(alloc, name, bytes, names)?;
@@ -111,93 +134,19 @@ impl Skim {
             Err(refusal) => Err(fault_of(alloc, name, bytes, refusal)),
         }
     }
-}
 
-/// What is read of the first part.
-fn skim_first<R: Read>(
-    alloc: Global,
-    part: &mut Part<R>,
-    names: LoadNames,
-) -> Result<Skim, PartFault>
-    ensures skimmed { (form : PartForm) (r : Replica) → IsPart R.remaining part.old form → IsWhole form → held_in form.bytes ≡ Ok r → SkimsPart (λ skim. skim.joined.replica) (λ skim. skim.batches) result names.first names.count r }
-    ensures ends { EndsPart R.remaining result part.old part.new }
-{
-    let bytes = part.read(alloc)?;
-    Skim::of_part(alloc, part.name(), bytes.as_slice(), names)
-}
-
-/// The same with what is read of a further part.
-fn skim_next<R: Read>(
-    alloc: Global,
-    skim: Skim,
-    part: &mut Part<R>,
-    names: LoadNames,
-) -> Result<Skim, PartFault>
-    ensures skimmed { (form : PartForm) (held r new : Replica) → IsPart R.remaining part.old form → IsWhole form → held_in form.bytes ≡ Ok r → merged held r ≡ Ok (tt, new) → IsEnough names.first names.count skim.joined.replica skim.batches held → SkimsPart (λ next. next.joined.replica) (λ next. next.batches) result names.first names.count new }
-    ensures ends { EndsPart R.remaining result part.old part.new }
-{
-    let bytes = part.read(alloc)?;
-    skim.with_part(alloc, part.name(), bytes.as_slice(), names)
-}
-
-/// The same with what is read of further parts, one after another.
-fn skim_others<R: Read>(
-    alloc: Global,
-    first: Skim,
-    parts: &mut [Part<R>],
-    names: LoadNames,
-) -> Result<Skim, PartRefusal>
-    ensures skimmed { (forms : List PartForm) (held whole : Replica) → AreParts R.remaining parts.old forms → AreWhole forms → merged_with held (bytes_of forms) ≡ Ok whole → IsEnough names.first names.count first.joined.replica first.batches held → SkimsAll (λ skim. skim.joined.replica) (λ skim. skim.batches) result names.first names.count whole }
-    ensures ends { EndsOthers R.remaining result parts.old parts.new }
-{
-    let mut skim = first;
-    for index in 0..parts.len() {
-        match skim_next(alloc, skim, &mut parts[index], names) {
-            Ok(next) => skim = next,
-            Err(fault) => return Err(fault.at(index + 1)),
+    /// A store that answers each load of so many batches from the first name on as the store of all parts does, and brings the same to
+    /// it. It may not, if the batches that were counted and those of the load are more than 1,048,576 together: then all parts are to be
+    /// joined. `Memory` is answered if there is no memory for it.
+    pub fn into_parts(self, alloc: Global) -> Result<SkimmedParts, Refusal>
+        // If what was read is enough of the parts, loads are answered from it as from all of them.
+        ensures answers { IfOk result (λ parts. (first : BatchName) (count : ℕ) (whole : Replica) → IsEnough first count self.0 self.1 whole → parts.batches + count ≤ batch_limit → AnswersLoads first count parts.held.replica whole) }
+        ensures refused { IfErr result (λ e. e ≡ Memory) }
+    {
+        let Skim { joined, batches } = self;
+        match joined.into_store(alloc) {
+            Ok(held) => Ok(SkimmedParts { held, batches }),
+            Err(refusal) => Err(refusal),
         }
-    }
-    Ok(skim)
-}
-
-/// What is read of all parts.
-fn skim_all<R: Read>(
-    alloc: Global,
-    first: &mut Part<R>,
-    others: &mut [Part<R>],
-    names: LoadNames,
-) -> Result<Skim, PartRefusal>
-    ensures skimmed { (form : PartForm) (forms : List PartForm) (whole : Replica) → IsPart R.remaining first.old form → AreParts R.remaining others.old forms → OpensParts {X = Replica} (λ r. r) (Ok whole) form forms → SkimsAll (λ skim. skim.joined.replica) (λ skim. skim.batches) result names.first names.count whole }
-    ensures ends { EndsAll R.remaining result (first.old ∷ others.old) (first.new ∷ others.new) }
-{
-    match skim_first(alloc, first, names) {
-        Ok(skim) => skim_others(alloc, skim, others, names),
-        Err(fault) => Err(fault.at(0)),
-    }
-}
-
-/// What of all parts of a folder is read for a load under given names: a store that answers each load of so many batches from the first
-/// name on as the store of all parts does, and brings the same to it. It may not, if the batches that were counted and those of the load
-/// are more than 1,048,576 together: then all parts are to be joined.
-///
-/// Each reader is read to its end, and its part judged, before the next one is read. A part that has no batch of these names is skimmed: it
-/// isn't compared with its name, and a fault of its values is not seen. Refused are, of a part that has one or that can't be
-/// skimmed, what [`join_parts`](crate::join_parts) refuses; and given the parts before it `Damaged` and `SchemaDiffers`, and of what was
-/// opened `Conflict` and `Full`. `Memory` may come in the place of any of them. The first part's place is 0.
-pub fn skim_parts<R: Read>(
-    alloc: Global,
-    first: &mut Part<R>,
-    others: &mut [Part<R>],
-    names: LoadNames,
-) -> Result<SkimmedParts, PartRefusal>
-    ensures answers { (form : PartForm) (forms : List PartForm) (whole : Replica) → IsPart R.remaining first.old form → AreParts R.remaining others.old forms → OpensParts {X = Replica} (λ r. r) (Ok whole) form forms → SkimsParts (λ parts. parts.held.replica) (λ parts. parts.batches) result names.first names.count whole }
-    // Which refusals there are, and how the readers are left.
-    ensures ends { EndsParts R.remaining is_refusal_of_parts result (first.old ∷ others.old) (first.new ∷ others.new) }
-{
-    let skim = skim_all(alloc, first, others, names)?;
-    let Skim { joined, batches } = skim;
-    match joined.into_store(alloc) {
-        Ok(held) => Ok(SkimmedParts { held, batches }),
-        Err(refusal) => Err(PartFault::Refused(refusal).at(0)),
     }
 }
