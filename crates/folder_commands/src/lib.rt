@@ -8,6 +8,7 @@ mod packing;
 mod reading;
 mod replacing;
 mod skimming;
+mod sweeping;
 mod taken;
 mod wanted;
 
@@ -16,3 +17,4 @@ pub use packing::pack;
 pub use reading::{Read, read_folder, read_named};
 pub use replacing::Replaced;
 pub use skimming::{Skimmed, skim_folder};
+pub use sweeping::sweep;
