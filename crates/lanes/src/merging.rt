@@ -255,12 +255,7 @@ impl Inputs {
     }
 
     /// Adds the parts of a folder.
-    fn add_parts(
-        &mut self,
-        alloc: Global,
-        folder: &str,
-        parts: &Parts,
-    ) -> Result<(), AllocError> {
+    fn add_parts(&mut self, alloc: Global, folder: &str, parts: &Parts) -> Result<(), AllocError> {
         for name in parts.names() {
             let path = path_in(alloc, folder, name.as_str())?;
             self.add(alloc, path.as_str(), path.as_str(), true)?;
@@ -315,10 +310,7 @@ fn merged_inputs<'r, R: Host>(
 }
 
 /// Why nothing was read from the input of an index, if it is a part.
-fn reason_of<R: Host>(
-    mut readers: Vec<ToldInput<'_, '_, '_, R>>,
-    at: usize,
-) -> Option<PartReason> {
+fn reason_of<R: Host>(mut readers: Vec<ToldInput<'_, '_, '_, R>>, at: usize) -> Option<PartReason> {
     if at >= readers.len() {
         return None;
     }

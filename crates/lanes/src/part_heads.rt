@@ -68,8 +68,9 @@ fn heads_of<R: Host>(
         batches.push(head.batches)?;
         match &first {
             Some((at, schema)) if !schema.same(&head.schema) => {
-                let tables = (&head.schema, schema);
-                return Err(of_other_head(rt, system, name.as_str(), at_place(names, *at), tables));
+                let last = (name.as_str(), &head.schema);
+                let first = (at_place(names, *at), schema);
+                return Err(of_other_head(rt, system, last, first));
             }
             Some(_) => {}
             None => first = Some((index, head.schema)),
@@ -135,31 +136,29 @@ fn of_head<R: Host>(
     }
 }
 
-/// Why the part of a name is refused, which has another table than that of the first name: these two. If the bytes of one of the two
-/// are not those of its name, it is damaged.
+/// Why the last one of two parts is refused, of which these are the names and the tables. If the bytes of one of the two are not those of
+/// its name, it is damaged.
 fn of_other_head<R: Host>(
     rt: &R,
     system: &mut SystemRound<'_, '_, R>,
-    name: &str,
-    first: &str,
-    tables: (&Schema, &Schema),
+    last: (&str, &Schema),
+    first: (&str, &Schema),
 ) -> Unread {
-    for name in [name, first] {
+    for name in [last.0, first.0] {
         if is_damaged(rt, system, name) {
             return of_part(rt, system, name, CommandRefusal::Damaged);
         }
     }
-    let (found, wanted) = tables;
-    match (system.path_of(name), system.path_of(first)) {
-        (Ok(path), Ok(first)) => {
-            let (path, first) = (path.as_str(), first.as_str());
-            Unread::from(Failure::of_tables(rt.alloc(), path, found, first, wanted))
+    match (system.path_of(last.0), system.path_of(first.0)) {
+        (Ok(path), Ok(other)) => {
+            let (path, other) = (path.as_str(), other.as_str());
+            Unread::from(Failure::of_tables(rt.alloc(), path, last.1, other, first.1))
         }
         _ => Unread::from(Failure::from(Refusal::Memory)),
     }
 }
 
-/// Why the part of a name is refused.
+/// The refusal of the part of a name.
 fn of_part<R: Host>(
     rt: &R,
     system: &SystemRound<'_, '_, R>,
@@ -173,11 +172,7 @@ fn of_part<R: Host>(
 }
 
 /// Compares the bytes of the part of a name with the name. Nothing of them is kept.
-fn compare<R: Host>(
-    rt: &R,
-    system: &mut SystemRound<'_, '_, R>,
-    name: &str,
-) -> Result<(), Unread> {
+fn compare<R: Host>(rt: &R, system: &mut SystemRound<'_, '_, R>, name: &str) -> Result<(), Unread> {
     let file = opened(system, name)?.file;
     let mut part = named_part(rt.alloc(), name, file)?;
     let refusal = match compare_part(rt.alloc(), &mut part) {
