@@ -10,7 +10,7 @@ use std::fs::Files;
 use std::io::ErrorKind;
 use table_model::Refusal;
 
-/// What is said of a name that parts have, and that is that of a pipe, say.
+/// What is said of what has a part's name and can't be read as a file, such as a pipe.
 const NO_FILE: &str = "this is neither a file nor a folder";
 
 /// Why a look at a folder's parts came to nothing.
