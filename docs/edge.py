@@ -1,15 +1,16 @@
 #!/usr/bin/env python3
-"""Checks that the program makes no call of the system on what is in a folder but by the implementation of the protocol's calls, or at a
-place that is named here with its reason. `crates/part_folder/src/system.rt` implements them (`Folder` of folder_protocol), over the files
-that are named beside it; of folders that others keep, as through the library, the calls are made by who drives it.
+"""Checks that the program makes no call of the system on what is in a folder but by the implementation of the protocol's calls.
+`crates/part_folder/src/system.rt` implements them (`Folder`, `Looks` and `Sweeps` of folder_protocol), over the files that are named beside
+it; each is noted. Of folders that others keep, as through the library, the calls are made by who drives it. Beside it are folders that are
+made or that were not made to the end, operands and inputs.
 
 The script knows each place in the program and in part_folder that makes a call by `std::fs`, and how many such calls it makes. A call
-more or less is told: name it here, or make it through `SystemFolder`. It prints what is wrong, and the status is then 1."""
+more or less is told: name it here with its reason, or make it through `SystemFolder`. It prints what is wrong, and the status is then 1."""
 import pathlib, re, sys
 
 CRATES = pathlib.Path(__file__).resolve().parent.parent / "crates"
-# Below these crates it is looked at each source. The crates of the protocol have no call at all.
-LOOKED_AT = ["part_folder", "lanes", "folder_home", "folder_history", "folder_protocol", "folder_replay"]
+# Below these crates it is looked at each source. Those of the protocol and of what commands do by it have no call at all.
+LOOKED_AT = ["part_folder", "lanes", "folder_commands", "folder_home", "folder_histories", "folder_history", "folder_protocol", "folder_replay"]
 CALL = re.compile(r"\bfs::[a-z_]+\(|\bOpenOptions::new\(|\.sync_all\(|\.sync_data\(|\.set_len\(|\.try_lock\(|\.try_lock_shared\(")
 CHANGES = re.compile(r"\bfs::(create|write|rename|remove|hard_link|copy|set_)[a-z_]*\(|\bOpenOptions::new\(|\.sync_all\(|\.sync_data\(|\.set_len\(")
 
@@ -18,29 +19,26 @@ IMPLEMENTATION = {
     "part_folder/src/system.rt": 5,
     "part_folder/src/listing.rt": 1,
     "part_folder/src/lock.rt": 3,
-    "part_folder/src/keeping.rt": 2,
-    "part_folder/src/temporary.rt": 5,
+    "part_folder/src/keeping.rt": 3,
+    "part_folder/src/temporary.rt": 9,
     "part_folder/src/names.rt": 1,
 }
 # Calls that change something beside it.
 CHANGING = {
-    "part_folder/src/sweeping.rt": (11, "it removes temporaries and folders that were not made to the end: what is no part may go at any time"),
-    "part_folder/src/making.rt": (12, "it makes a folder under a name that no command takes, and renames it once it is whole"),
+    "part_folder/src/making.rt": (7, "it makes a folder under a name that no command takes, and renames it once it is whole; the part in it is put by the calls of the protocol"),
+    "part_folder/src/sweeping.rt": (7, "it removes folders that were not made to the end, which no command takes"),
     "lanes/src/output.rt": (2, "it writes OUT, which is no folder"),
-    "lanes/src/spreading.rt": (3, "it makes the outputs of a spread, and removes those of one that is refused"),
+    "lanes/src/spreading.rt": (3, "it removes the files and folders that a spread has made, if it is refused"),
 }
-# Calls that change nothing. What is read of a part is compared with its name before it counts.
+# Calls that change nothing, on operands and inputs.
 LOOKING = {
-    "lanes/src/parts.rt": (1, "it reads parts for a named load, which skims them, and compares one with its name: a read is in turn at any time"),
-    "lanes/src/folders.rt": (1, "it reads the heads of parts, for loads and `delete-rows`: a read is in turn at any time"),
-    "lanes/src/checked_part.rt": (1, "it reads a file that is named as a part, which is an input"),
-    "lanes/src/packing.rt": (2, "it asks for the sizes of parts, by which a pack chooses them, and if its operand is a file"),
+    "lanes/src/packing.rt": (1, "it asks if its operand is a file"),
     "lanes/src/home.rt": (2, "it asks if an operand is a folder, and if its name is free"),
     "lanes/src/inputs.rt": (1, "it reads inputs"),
     "lanes/src/failure.rt": (4, "it looks at an operand that was refused, for a sentence"),
     "lanes/src/merging.rt": (2, "it asks if OUT is one of the inputs"),
     "lanes/src/watched_folder.rt": (1, "it hands a call on the lock of a FILE to file_replacing"),
-    "lanes/src/progress.rt": (1, "it asks for the size of an input"),
+    "lanes/src/progress.rt": (1, "it asks for the size of an input, which it says at a terminal"),
 }
 
 

@@ -240,16 +240,6 @@ def a_folder_that_opens_slowly_says_which_part_is_read(room):
     assert status == 0 and shown == b"", f"a delete of no row ended with {status} and showed {shown!r}"
 
 
-def a_pipe_that_has_a_parts_name_is_refused_and_not_waited_for(room):
-    room.ok("create", "d/", "T", "A", "SMALLINT", "B", "BIGINT")
-    room.ok("import", "--no-header", "--batch", "1.1", "d", "-", given=b"1,10\n")
-    name = "d/" + "0" * 32 + ".lanes"
-    os.mkfifo(room.path(name))
-    for words in (("query", "d", "SELECT COUNT(*) FROM T"), ("check", "d"), ("delete", "d", "A = 9"), ("forget", "d"), ("apply", "d", "d")):
-        status, _, err = room.run(*words)
-        assert status == 1 and err.startswith(b"refused ReadFault\n" + name.encode() + b": "), f"{words} ended with {status} and said {err!r}"
-
-
 def nothing_is_said_where_standard_error_is_no_terminal(room):
     room.make()
     os.mkfifo(room.path("pipe"))
@@ -273,6 +263,5 @@ TESTS = [
     the_line_is_cleared_before_a_refusal,
     the_size_of_a_file_is_said,
     a_folder_that_opens_slowly_says_which_part_is_read,
-    a_pipe_that_has_a_parts_name_is_refused_and_not_waited_for,
     nothing_is_said_where_standard_error_is_no_terminal,
 ]

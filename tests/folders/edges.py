@@ -1,4 +1,5 @@
-"""What lies at the edges of commands on folders: nothing to do, nothing said, a sync that fails, few open files, and which part is named."""
+"""What lies at the edges of commands on folders: nothing to do, nothing said, a sync that fails, few open files, which part is named, and names
+that parts have and that are those of no files."""
 
 import os
 import re
@@ -240,6 +241,28 @@ def a_folder_that_has_a_parts_name_is_none(room):
     assert count(room) == 4
 
 
+def a_pipe_that_has_a_parts_name_is_refused_and_not_waited_for(room):
+    make_folder(room, loads=2)
+    before, name = parts_of(room), "d/" + "0" * 32 + ".lanes"
+    os.mkfifo(room.path(name))
+    for words in (
+        ("query", "d", "SELECT COUNT(*) FROM T"),
+        ("check", "d"),
+        ("delete", "d", "A = 9"),
+        ("delete-rows", "d", "1.1", "0", "0"),
+        ("forget", "d"),
+        ("apply", "d", "d"),
+        ("import", "--no-header", "d", "-"),
+        ("import", "--no-header", "--batch", "8.8", "d", "-"),
+        ("merge", "m", "d"),
+        ("merge", "m/", "d"),
+    ):
+        room.refused(*words, given=b"7,7\n", line="refused ReadFault", sentence=f"{name}: this is neither a file nor a folder")
+        assert room.names() == ["d"] and set(parts_of(room)) == {*before, os.path.basename(name)}, f"{words} left {room.names()}"
+    # A pack joins files alone.
+    room.ok("pack", "--all", "d", prints=b"ok parts=2 packed=3\n")
+
+
 TESTS = [
     a_load_of_no_rows_adds_no_part,
     a_quiet_command_does_the_same_and_says_nothing,
@@ -252,4 +275,5 @@ TESTS = [
     of_three_parts_the_two_that_disagree_are_named,
     of_parts_of_many_batches_the_one_that_has_the_name_is_named,
     a_folder_that_has_a_parts_name_is_none,
+    a_pipe_that_has_a_parts_name_is_refused_and_not_waited_for,
 ]

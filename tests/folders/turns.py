@@ -1,7 +1,8 @@
 """Each command's system calls on what is in a folder keep to the protocol: the rules of crates/folder_history/specs/Turn.antt, read off strace.
 
-Of a call on a folder the protocol knows: made, wrote, synced, linked, removed, settled, locked, unlocked, began, listed and read. What it
-says of the order of covering can't be seen in a trace; that a removed part was read, and another one guarded, can."""
+Of a call on a folder the protocol knows: made, wrote, synced, linked, removed, settled, locked, unlocked, began, listed, read and looked. A
+look at a name opens its file as a read does, so it is taken for one here. What the protocol says of the order of covering can't be seen in a
+trace; that a removed part was read, and another one guarded, can."""
 
 import os
 import re
@@ -114,7 +115,7 @@ def note(process, call, names, opened, ok, words):
         process.linked(names[0], names[-1], "done" if ok else "taken" if "EEXIST" in words else "failed")
     elif call in ("unlink", "unlinkat") and names[0] is not None:
         process.removed(names[0])
-    elif call.startswith("rename") and any(name is not None for name in names):
+    elif call.startswith("rename") and any(name not in (None, ".") for name in names):
         process.wants(False, f"renamed {names}")
     elif call == "flock" and opened == ".":
         process.locks(None if "LOCK_UN" in words or not ok else "exclusive" if "LOCK_EX" in words else "shared")
@@ -187,6 +188,20 @@ def each_call_of_each_command_is_in_turn(room):
         only_parts(room)
 
 
+def each_call_in_a_folder_that_is_made_is_in_turn(room):
+    make_folder(room, loads=3)
+    for words, folder in ((("create", "n/", "T", "A", "SMALLINT"), "n"), (("merge", "m/", "d"), "m"), (("spread", "d", "s/", "u"), "s")):
+        trace, status, err = traced(room, *words)
+        new = re.search(rf'"(\.{folder}\.lanes-new-[0-9a-f]{{16}})"', trace)
+        assert status == 0 and new, f"{words} said {err!r}"
+        try:
+            process = follow(room, trace, new[1])
+        except OutOfTurn as fault:
+            raise AssertionError(f"{words}: {fault} in\n{trace[-2000:]}") from fault
+        assert process.stored == parts_of(room, folder) and len(process.stored) == 1, f"{words} stored {process.stored}"
+        only_parts(room, folder)
+
+
 def a_part_that_came_meanwhile_is_judged_and_then_the_part_is_put(room):
     make_folder(room)
     offered(room)
@@ -245,4 +260,9 @@ def the_rules_refuse_what_the_protocol_does_not_have(_room):
                 assert at + 1 == len(calls), f"{said}: refused too early, at {call}"
 
 
-TESTS = [each_call_of_each_command_is_in_turn, a_part_that_came_meanwhile_is_judged_and_then_the_part_is_put, the_rules_refuse_what_the_protocol_does_not_have]
+TESTS = [
+    each_call_of_each_command_is_in_turn,
+    each_call_in_a_folder_that_is_made_is_in_turn,
+    a_part_that_came_meanwhile_is_judged_and_then_the_part_is_put,
+    the_rules_refuse_what_the_protocol_does_not_have,
+]

@@ -1,13 +1,16 @@
 //! A part that is compared with its name before anything is read from it.
 
-use crate::folders::last_of;
+use crate::host::Host;
 use folder_home::is_part;
-use std::fs::{self, Files};
+use folder_protocol::Folder;
+use part_folder::SystemFolder;
 use std::io::{self, ErrorKind, Read};
 
 /// Why nothing is read from a part.
 #[derive(Clone, Copy, Debug, PartialEq, Eq)]
 pub enum PartReason {
+    /// It is gone.
+    Gone,
     /// The system does not read it, for this reason.
     Unread(ErrorKind),
     /// Its bytes are not those of its name.
@@ -16,9 +19,9 @@ pub enum PartReason {
 
 /// A part of a folder, which is read whole and compared with its name at the first read. If it has other bytes the read fails.
 #[derive(Drop)]
-pub struct CheckedPart<'r, 'n, R: Files> {
+pub struct CheckedPart<'r, 'n, R> {
     rt: &'r R,
-    path: &'n str,
+    folder: &'n str,
     name: &'n str,
     bytes: Option<Vec<u8>>,
     at: usize,
@@ -26,23 +29,23 @@ pub struct CheckedPart<'r, 'n, R: Files> {
     reason: Option<PartReason>,
 }
 
-impl<'r, 'n, R: Files> CheckedPart<'r, 'n, R> {
-    /// The part of this path, whose last component is its name.
+impl<'r, 'n, R> CheckedPart<'r, 'n, R> {
+    /// The part of this path, which ends in its name.
     pub fn new(rt: &'r R, path: &'n str) -> CheckedPart<'r, 'n, R> {
+        let (folder, name) = match path.rsplit_once('/') {
+            None => (".", path),
+            Some(("", name)) => ("/", name),
+            Some(both) => both,
+        };
         CheckedPart {
             rt,
-            path,
-            name: last_of(path),
+            folder,
+            name,
             bytes: None,
             at: 0,
             is_begun: false,
             reason: None,
         }
-    }
-
-    /// Whether a read has begun.
-    pub fn is_begun(&self) -> bool {
-        self.is_begun
     }
 
     /// Why nothing is read from it, if that is so.
@@ -51,25 +54,32 @@ impl<'r, 'n, R: Files> CheckedPart<'r, 'n, R> {
     }
 }
 
-impl<'r, 'n, R: Files + AllocGlobal> CheckedPart<'r, 'n, R> {
+impl<'r, 'n, R: Host> CheckedPart<'r, 'n, R> {
     /// Reads the file whole, and compares it with its name.
     fn begin(&mut self) -> io::Result<()> {
         self.is_begun = true;
-        match fs::read(self.rt, self.path) {
-            Ok(bytes) => {
+        match self.read_whole() {
+            Ok(Some(bytes)) => {
                 if is_part(self.rt.alloc(), self.name, bytes.as_slice())? {
                     self.bytes = Some(bytes);
                 } else {
                     self.reason = Some(PartReason::Damaged);
                 }
             }
+            Ok(None) => self.reason = Some(PartReason::Gone),
             Err(error) => self.reason = Some(PartReason::Unread(error.kind())),
         }
         Ok(())
     }
+
+    /// The bytes of the file, if it is there.
+    fn read_whole(&self) -> io::Result<Option<Vec<u8>>> {
+        let mut folder = SystemFolder::open(self.rt, self.folder)?;
+        folder.read(self.rt.alloc(), self.name)
+    }
 }
 
-impl<'r, 'n, R: Files + AllocGlobal> Read for CheckedPart<'r, 'n, R> {
+impl<'r, 'n, R: Host> Read for CheckedPart<'r, 'n, R> {
     fn read(&mut self, buffer: &mut [u8]) -> io::Result<usize> {
         if !self.is_begun {
             self.begin()?;

@@ -2,7 +2,7 @@
 
 use crate::change::{Done, Reply};
 use crate::failure::Failure;
-use crate::folders::{Opened, Parts, open_folder, read_heads};
+use crate::folders::{Opened, Parts, open_folder};
 use crate::home::is_there;
 use crate::host::Host;
 use crate::inputs::of_other_table;
@@ -10,6 +10,7 @@ use crate::judged_puts::put_judged;
 use crate::loading::{load_of, random_words};
 use crate::named_imports::import_named;
 use crate::offers::{OfferTables, read_offers};
+use crate::part_heads::read_heads;
 use crate::progress::Progress;
 use crate::putting::{keep_all, make_folder, put_part, unmade};
 use command_line::{CsvForm, Source};

@@ -4,11 +4,11 @@ use crate::change::{Done, Reply};
 use crate::failure::Failure;
 use crate::folders::{Parts, SystemRound, no_part, passed_in};
 use crate::host::Host;
-use crate::looks::Looks;
 use crate::part_failures::{Unread, busy};
 use crate::progress::Progress;
 use crate::putting::{keep_in, new_temporary};
 use crate::replacing::{Round, round_of};
+use crate::rounds::Rounds;
 use crate::told_folder::ToldFolder;
 use file_home::Left;
 use file_replacing::Replaced;
@@ -22,14 +22,14 @@ pub fn forget_folder<R: Host>(
     progress: &Progress<'_, R>,
     folder: &str,
 ) -> Result<Done, Failure> {
-    let mut looks = Looks::new(rt);
+    let mut rounds = Rounds::new(rt);
     for _ in 0..u64::MAX {
-        let outcome = forget_once(&*rt, &*progress, folder, looks.is_careful());
+        let outcome = forget_once(&*rt, &*progress, folder, rounds.is_careful());
         progress.clear();
         match outcome {
             Ok((done, left)) => return Ok(Done::new(Reply::Forgotten(done), left)),
             Err(why) => {
-                if !looks.again(rt, why)? {
+                if !rounds.again(rt, why)? {
                     break;
                 }
             }
@@ -47,7 +47,7 @@ fn forget_once<'r, R: Host>(
     is_careful: bool,
 ) -> Result<(Forgotten, Left), Unread> {
     let mut system = ToldFolder::open(rt, folder, Some(progress))?;
-    let passed = passed_in(rt, folder, &mut system, is_careful)?;
+    let passed = passed_in(rt.alloc(), &mut system, is_careful)?;
     let passed = passed.as_slice();
     let temporary = new_temporary(rt, folder)?;
     let forgot = match forget(rt.alloc(), &mut system, temporary.as_str(), passed) {
@@ -61,7 +61,7 @@ fn forget_once<'r, R: Host>(
         replaced,
     } = forgot;
     let Some(done) = replaced else {
-        return Ok((dropped, kept(rt, folder, system, names, passed)?));
+        return Ok((dropped, kept(rt, system, names, passed)?));
     };
     match round_of(rt, folder, done)? {
         Round::Replaced(_) => Ok((dropped, Left::Changed(Replaced::Synced))),
@@ -72,13 +72,12 @@ fn forget_once<'r, R: Host>(
 /// How a folder is left in which nothing is dropped: its parts are those of these names that are not passed over.
 fn kept<R: Host>(
     rt: &R,
-    folder: &str,
     system: SystemRound<'_, '_, R>,
     names: Vec<String>,
     passed: &[String],
 ) -> Result<Left, Failure> {
     let unreadable = system.unreadable();
-    let parts = Parts::among(rt.alloc(), folder, names, unreadable, passed)?;
+    let parts = Parts::among(rt.alloc(), names, unreadable, passed)?;
     let mut system = system.into_inner();
     Ok(keep_in(rt.alloc(), &mut system, parts.names()))
 }

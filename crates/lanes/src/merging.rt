@@ -8,22 +8,22 @@ use crate::heads::{Headed, Heads};
 use crate::home::{Home, is_folder};
 use crate::host::Host;
 use crate::inputs::LazyFile;
-use crate::looks::Looks;
 use crate::output::{Output, is_special, write_in_place};
-use crate::part_failures::{Unread, path_at, refused, unread_for};
+use crate::part_failures::{Unread, at_place, refused, unread_for};
 use crate::progress::{Progress, Told};
 use crate::putting::make_folder;
+use crate::rounds::Rounds;
 use crate::said::say;
 use command_line::{Source, not_for_a_folder};
 use either::Either;
 use file_home::{Left, merged};
 use folder_home::PartFault;
+use part_folder::path_in;
 use refusal_sentences::CommandRefusal;
 use std::alloc::{AllocError, Global};
 use std::fs::{self, Files};
 use std::io::Read;
 use std::os::unix::fs::MetadataExt;
-use std::rt::Clock;
 use table_model::{Counted, READ_CHUNK, Refusal};
 
 /// What to do instead of a merge into a folder that is there.
@@ -178,9 +178,9 @@ fn merged_files<R: Host>(
     names: &[&str],
     sources: &[&str],
 ) -> Result<Vec<u8>, Failure> {
-    let mut looks = Looks::new(rt);
+    let mut rounds = Rounds::new(rt);
     for _ in 0..u64::MAX {
-        let (inputs, fault) = Inputs::of(rt, names, sources, looks.is_careful())?;
+        let (inputs, fault) = Inputs::of(rt, names, sources, rounds.is_careful())?;
         let outcome = if fault.is_some() && inputs.paths.as_slice().is_empty() {
             Ok(Vec::new(rt.alloc()))
         } else {
@@ -189,7 +189,7 @@ fn merged_files<R: Host>(
         match outcome {
             Ok(bytes) => return told_last(bytes, fault),
             Err(why) => {
-                if !looks.again(rt, why)? {
+                if !rounds.again(rt, why)? {
                     break;
                 }
             }
@@ -232,7 +232,7 @@ impl Inputs {
             match Home::of(rt, *source) {
                 Home::File(file) => inputs.add(rt.alloc(), *name, file, false)?,
                 Home::Folder(folder) => match Parts::listed(rt, folder, is_careful) {
-                    Ok(parts) => inputs.add_parts(rt.alloc(), &parts)?,
+                    Ok(parts) => inputs.add_parts(rt.alloc(), folder, &parts)?,
                     Err(failure) => return Ok((inputs, Some(failure))),
                 },
             }
@@ -255,8 +255,9 @@ impl Inputs {
     }
 
     /// Adds the parts of a folder.
-    fn add_parts(&mut self, alloc: Global, parts: &Parts) -> Result<(), AllocError> {
-        for path in parts.paths() {
+    fn add_parts(&mut self, alloc: Global, folder: &str, parts: &Parts) -> Result<(), AllocError> {
+        for name in parts.names() {
+            let path = path_in(alloc, folder, name.as_str())?;
             self.add(alloc, path.as_str(), path.as_str(), true)?;
         }
         Ok(())
@@ -270,7 +271,7 @@ type Input<'r, 'n, R> = Either<LazyFile<'r, 'n, R>, CheckedPart<'r, 'n, R>>;
 type ToldInput<'r, 'n, 'h, R> = Counted<Told<'r, 'n, R, Headed<'h, Input<'r, 'n, R>>>>;
 
 /// The canonical file of what all inputs hold.
-fn merged_inputs<'r, R: Eprint + Files + Clock + AllocGlobal>(
+fn merged_inputs<'r, R: Host>(
     rt: &'r R,
     progress: &'r Progress<'r, R>,
     inputs: &Inputs,
@@ -298,11 +299,10 @@ fn merged_inputs<'r, R: Eprint + Files + Clock + AllocGlobal>(
     let at = heads.begun().saturating_sub(1);
     let paths = inputs.paths.as_slice();
     let fault = match reason_of(readers, at) {
-        Some(PartReason::Unread(kind)) => return Err(unread_for(
-            rt,
-            path_at(paths, at),
-            Some(kind),
-        )),
+        Some(PartReason::Gone) => return Err(Unread::Gone),
+        Some(PartReason::Unread(kind)) => {
+            return Err(unread_for(rt.alloc(), at_place(paths, at), kind));
+        }
         Some(PartReason::Damaged) => PartFault::Damaged,
         None => PartFault::Refused(refusal),
     };
@@ -310,10 +310,7 @@ fn merged_inputs<'r, R: Eprint + Files + Clock + AllocGlobal>(
 }
 
 /// Why nothing was read from the input of an index, if it is a part.
-fn reason_of<R: Eprint + Files + Clock>(
-    mut readers: Vec<ToldInput<'_, '_, '_, R>>,
-    at: usize,
-) -> Option<PartReason> {
+fn reason_of<R: Host>(mut readers: Vec<ToldInput<'_, '_, '_, R>>, at: usize) -> Option<PartReason> {
     if at >= readers.len() {
         return None;
     }

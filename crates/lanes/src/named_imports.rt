@@ -3,20 +3,20 @@
 use crate::change::Done;
 use crate::failure::Failure;
 use crate::folder_changes::finish_judged;
-use crate::folders::{Opened, Parts, open_folder, parts_of, read_heads};
-use crate::heads::Heads;
+use crate::folders::{Opened, Parts, no_part, open_folder, passed_in};
 use crate::host::Host;
 use crate::loading::load_of;
-use crate::looks::Looks;
-use crate::part_failures::{Unread, busy, why_unread};
-use crate::parts::Opening;
-use crate::progress::{PartCount, Progress, ToldOpening};
+use crate::part_failures::{Unread, busy};
+use crate::part_heads::read_heads;
+use crate::progress::Progress;
 use crate::putting::unmade;
+use crate::rounds::Rounds;
+use crate::told_folder::ToldFolder;
 use command_line::{CsvForm, Source};
-use folder_home::{LoadNames, SkimmedParts, part_of, skim_parts};
+use folder_commands::Skimmed;
+use folder_home::{LoadNames, SkimmedParts, part_of};
 use replica_commands::Command;
 use replica_store::Store;
-use std::fs::Files;
 use table_model::{BatchName, Counted};
 
 /// Puts the rows of comma-separated values into a folder as one part, under names that begin with the one that is given. Of two such
@@ -74,16 +74,14 @@ fn skim_folder<R: Host>(
     folder: &str,
     names: LoadNames,
 ) -> Result<Opened<SkimmedParts>, Failure> {
-    let mut looks = Looks::new(rt);
+    let mut rounds = Rounds::new(rt);
     for _ in 0..u64::MAX {
-        let parts = Parts::listed(rt, folder, looks.is_careful())?;
-        let count = PartCount::new(&*progress, &*folder, parts.count());
-        let outcome = skim_paths(rt, parts.paths(), ToldOpening::new(&count), names);
+        let outcome = skim_once(&*rt, &*progress, folder, names, rounds.is_careful());
         progress.clear();
         match outcome {
-            Ok(held) => return Ok(Opened { held, parts }),
+            Ok(opened) => return Ok(opened),
             Err(why) => {
-                if !looks.again(rt, why)? {
+                if !rounds.again(rt, why)? {
                     break;
                 }
             }
@@ -92,21 +90,24 @@ fn skim_folder<R: Host>(
     Err(busy(rt.alloc(), folder))
 }
 
-/// What of the parts of these paths is read, of which there is at least one; what is told when each is opened.
-fn skim_paths<R: Files + AllocGlobal, O: Opening + Drop>(
-    rt: &R,
-    paths: &[String],
-    opening: O,
+/// The same by one look at its parts.
+fn skim_once<'r, R: Host>(
+    rt: &'r R,
+    progress: &'r Progress<'r, R>,
+    folder: &str,
     names: LoadNames,
-) -> Result<SkimmedParts, Unread> {
-    let heads = Heads::new(rt.alloc());
-    let mut readers = parts_of(rt, paths, opening, &heads)?;
-    let skimmed = match readers.as_mut_slice().split_first_mut() {
-        Some((first, others)) => skim_parts(rt.alloc(), first, others, names),
-        None => return Err(Unread::Gone),
-    };
-    match skimmed {
-        Ok(held) => Ok(held),
-        Err(refusal) => Err(why_unread(rt, paths, readers, refusal, &heads)),
+    is_careful: bool,
+) -> Result<Opened<SkimmedParts>, Unread> {
+    let mut system = ToldFolder::open(rt, folder, Some(progress))?;
+    let passed = passed_in(rt.alloc(), &mut system, is_careful)?;
+    let passed = passed.as_slice();
+    match folder_commands::skim_folder(rt.alloc(), &mut system, passed, names) {
+        Ok(Some(skimmed)) => {
+            let Skimmed { names, held } = skimmed;
+            let parts = Parts::among(rt.alloc(), names, system.unreadable(), passed)?;
+            Ok(Opened { held, parts })
+        }
+        Ok(None) => Err(Unread::Refused(no_part(rt.alloc(), folder))),
+        Err(fault) => Err(system.why(fault)),
     }
 }

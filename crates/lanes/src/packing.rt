@@ -3,17 +3,16 @@
 use crate::failure::Failure;
 use crate::folders::{Parts, SystemRound};
 use crate::host::Host;
-use crate::part_failures::{Unread, busy, of_folder};
+use crate::part_failures::{Unread, busy, unread_part};
 use crate::putting::new_temporary;
 use crate::replacing::{Round, round_of};
 use crate::said::say_line;
 use crate::told_folder::ToldFolder;
 use folder_home::packed_prefix;
-use part_folder::{is_link, path_in, sweep};
+use folder_protocol::{Found, Looks};
 use patience::Patience;
 use refusal_sentences::CommandRefusal;
 use std::fs::{self, Files};
-use std::io::ErrorKind;
 use table_model::Refusal;
 
 /// Joins the small parts of a folder into one, until each part has more than a seventh of the bytes of those before it, or once all
@@ -24,13 +23,20 @@ pub fn pack<R: Host>(rt: &R, folder: &str, is_all: bool, is_quiet: bool) -> Resu
         let words = "this is a file: lanes pack takes a folder";
         return Err(Failure::advised(rt.alloc(), refusal, folder, words));
     }
-    if let Err(fault) = sweep(rt, folder) {
-        return Err(of_folder(rt.alloc(), folder, fault));
-    }
+    sweep(rt, folder)?;
     let packed = pack_rounds(rt, folder, is_all)?;
     let parts = Parts::listed(rt, folder, true)?.count();
     let line = format!(in rt.alloc(); "ok parts={parts} packed={packed}\n")?;
     say_line(rt, line.as_str(), is_quiet)
+}
+
+/// Removes the temporaries of a folder that no process holds.
+fn sweep<R: Host>(rt: &R, folder: &str) -> Result<(), Failure> {
+    let mut system = ToldFolder::open(rt, folder, None)?;
+    match folder_commands::sweep(rt.alloc(), &mut system) {
+        Ok(()) => Ok(()),
+        Err(error) => Err(system.unlisted(error)),
+    }
 }
 
 /// Joins parts as long as there are some to be joined, or once all; how many were joined and removed. If another pack or a forget was
@@ -99,15 +105,12 @@ fn sized_parts<R: Host>(
     let parts = Parts::listed_in(rt, folder, system, false)?;
     let mut sized = Vec::with_capacity(rt.alloc(), parts.count())?;
     for name in parts.into_names() {
-        let path = path_in(rt.alloc(), folder, name.as_str())?;
-        match fs::metadata(rt, path.as_str()) {
-            Ok(found) if found.is_file() => sized.push((found.len(), name))?,
+        match system.find(name.as_str()) {
+            Ok(Found::File { size }) => sized.push((size, name))?,
             Ok(_) => {}
-            Err(error) if error.kind() == ErrorKind::NotFound && !is_link(rt, path.as_str()) => {}
             Err(error) => {
-                let kind = error.kind();
-                let refusal = Refusal::ReadFault;
-                return Err(Failure::of_reason(rt.alloc(), refusal, path.as_str(), kind));
+                let path = system.path_of(name.as_str())?;
+                return Err(unread_part(rt.alloc(), path.as_str(), error.kind()));
             }
         }
     }

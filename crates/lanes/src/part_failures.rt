@@ -1,15 +1,17 @@
 //! Why the parts of a folder are refused, with the names of those that are at fault.
 
 use crate::failure::Failure;
-use crate::heads::{Headed, Heads};
-use crate::parts::{Opening, PartFile};
-use folder_home::{Part, PartFault, PartRefusal};
-use part_folder::{FolderFault, is_link};
+use crate::heads::Heads;
+use folder_home::PartFault;
+use part_folder::FolderFault;
 use refusal_sentences::CommandRefusal;
 use std::alloc::{AllocError, AllocFailed, Global};
 use std::fs::Files;
 use std::io::ErrorKind;
 use table_model::Refusal;
+
+/// What is said of what has a part's name and can't be read as a file, such as a pipe.
+const NO_FILE: &str = "this is neither a file nor a folder";
 
 /// Why a look at a folder's parts came to nothing.
 #[derive(Drop)]
@@ -40,33 +42,22 @@ impl<T: Drop> From<AllocFailed<T>> for Unread {
     }
 }
 
-/// A part of a folder whose head is kept, and the names of its batches.
-pub type HeadedPart<'r, 'h, R, O> = Part<Headed<'h, PartFile<'r, R, O>>>;
-
-/// Why a part of these paths, which were read in this order, is not taken. The heads are those of the parts.
-pub fn why_unread<R: Files + AllocGlobal, O: Opening + Drop>(
-    rt: &R,
-    paths: &[String],
-    mut parts: Vec<HeadedPart<'_, '_, R, O>>,
-    refusal: PartRefusal,
-    heads: &Heads,
-) -> Unread {
-    let at = refusal.part;
-    if refusal.fault == PartFault::Refused(Refusal::ReadFault) && at < parts.len() {
-        let part = parts.swap_remove(at).into_reader().into_inner();
-        return unread_for(rt, path_at(paths, at), part.into_inner().reason());
+/// Why the part of this path is not read, if the system gives this reason.
+pub fn unread_for(alloc: Global, path: &str, kind: ErrorKind) -> Unread {
+    match kind {
+        ErrorKind::IsADirectory => Unread::Folder,
+        kind => Unread::Refused(unread_part(alloc, path, kind)),
     }
-    Unread::Refused(refused(rt, paths, at, refusal.fault, heads))
 }
 
-/// Why the part of this path is not read, if the system gives this reason.
-pub fn unread_for<R: Files + AllocGlobal>(rt: &R, path: &str, reason: Option<ErrorKind>) -> Unread {
-    let refusal = Refusal::ReadFault;
-    match reason {
-        Some(ErrorKind::NotFound) if !is_link(rt, path) => Unread::Gone,
-        Some(ErrorKind::IsADirectory) => Unread::Folder,
-        Some(kind) => Unread::Refused(Failure::of_reason(rt.alloc(), refusal, path, kind)),
-        None => Unread::Refused(Failure::of_file(rt, CommandRefusal::from(refusal), path)),
+/// The refusal of the part of this path, which the system does not read for this reason.
+pub fn unread_part(alloc: Global, path: &str, kind: ErrorKind) -> Failure {
+    match kind {
+        ErrorKind::InvalidInput => {
+            let refusal = CommandRefusal::from(Refusal::ReadFault);
+            Failure::advised(alloc, refusal, path, NO_FILE)
+        }
+        kind => Failure::of_reason(alloc, Refusal::ReadFault, path, kind),
     }
 }
 
@@ -79,16 +70,16 @@ pub fn refused<R: Files + AllocGlobal>(
     heads: &Heads,
 ) -> Failure {
     let alloc = rt.alloc();
-    let path = path_at(paths, at);
+    let path = at_place(paths, at);
     match fault {
         PartFault::Damaged => Failure::of_file(rt, CommandRefusal::Damaged, path),
         PartFault::Refused(Refusal::SchemaDiffers) => {
-            of_other_table(rt, heads, path, path_at(paths, 0))
+            of_other_table(rt, heads, path, at_place(paths, 0))
         }
         PartFault::Refused(Refusal::Conflict(name)) => {
             let refusal = CommandRefusal::from(Refusal::Conflict(name));
             match heads.first_with(name) {
-                Some(other) => Failure::of_both(alloc, refusal, path, path_at(paths, other)),
+                Some(other) => Failure::of_both(alloc, refusal, path, at_place(paths, other)),
                 None => Failure::of_file(rt, refusal, path),
             }
         }
@@ -120,10 +111,10 @@ pub fn of_other_table<R: Files + AllocGlobal>(
     }
 }
 
-/// The path of this index.
-pub fn path_at(paths: &[String], at: usize) -> &str {
-    match paths.get(at) {
-        Some(path) => path.as_str(),
+/// The name or the path at this place.
+pub fn at_place(names: &[String], at: usize) -> &str {
+    match names.get(at) {
+        Some(name) => name.as_str(),
         None => "",
     }
 }

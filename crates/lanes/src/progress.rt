@@ -1,8 +1,6 @@
 //! How far the reading of a command is, for a person who waits at a terminal.
 
-use crate::folders::last_of;
 use crate::inputs::name_of;
-use crate::parts::Opening;
 use command_line::Source;
 use file_replacing::ReadWatch;
 use refusal_sentences::Printable;
@@ -110,6 +108,14 @@ impl<'r, R: Clock + Eprint> Progress<'r, R> {
     }
 }
 
+/// The last component of a path.
+fn last_of(path: &str) -> &str {
+    match path.rsplit_once('/') {
+        Some((_, name)) => name,
+        None => path,
+    }
+}
+
 /// A name as it fits into the line: its last component if the whole is too long, and else a word for it.
 fn shown_name(name: &str) -> &str {
     if name.len() <= NAME_BYTES {
@@ -161,58 +167,6 @@ impl<'p, R: Files + Clock + Eprint> ReadWatch for LockedReading<'p, R> {
             }
             self.progress.show(name, read, self.size.get());
         }
-    }
-}
-
-/// How many parts of a folder were opened, and how many it has.
-#[derive(Drop)]
-pub struct PartCount<'p, 'n, R> {
-    progress: &'p Progress<'p, R>,
-    folder: &'n str,
-    opened: Cell<usize>,
-    parts: usize,
-}
-
-impl<'p, 'n, R: Clock + Eprint> PartCount<'p, 'n, R> {
-    /// Of so many parts none was opened.
-    pub fn new(
-        progress: &'p Progress<'p, R>,
-        folder: &'n str,
-        parts: usize,
-    ) -> PartCount<'p, 'n, R> {
-        PartCount {
-            progress,
-            folder,
-            opened: Cell::new(0),
-            parts,
-        }
-    }
-}
-
-/// What counts the parts that are opened, and says how many they are.
-#[derive(Drop)]
-pub struct ToldOpening<'c, 'p, 'n, R> {
-    count: &'c PartCount<'p, 'n, R>,
-}
-
-impl<'c, 'p, 'n, R> ToldOpening<'c, 'p, 'n, R> {
-    /// What counts here.
-    pub fn new(count: &'c PartCount<'p, 'n, R>) -> ToldOpening<'c, 'p, 'n, R> {
-        ToldOpening { count }
-    }
-}
-
-impl<'c, 'p, 'n, R: Clock + Eprint> Opening for ToldOpening<'c, 'p, 'n, R> {
-    fn begin(&self) {
-        let number = self.count.opened.get().saturating_add(1);
-        self.count.opened.set(number);
-        self.count
-            .progress
-            .tell_part(self.count.folder, number, self.count.parts);
-    }
-
-    fn again(&self) -> ToldOpening<'c, 'p, 'n, R> {
-        ToldOpening::new(self.count)
     }
 }
 

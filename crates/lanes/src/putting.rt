@@ -3,7 +3,7 @@
 use crate::failure::Failure;
 use crate::folders::Parts;
 use crate::host::Host;
-use crate::part_failures::of_folder;
+use crate::part_failures::{of_folder, unread_part};
 use file_home::Left;
 use file_replacing::Replaced;
 use folder_home::part_name;
@@ -99,7 +99,7 @@ pub fn unkept<R: Files<File = File> + AllocGlobal>(
         return unwritten(rt, folder, kind);
     };
     match path_in(rt.alloc(), folder, name) {
-        Ok(path) => Failure::of_reason(rt.alloc(), Refusal::ReadFault, path.as_str(), kind),
+        Ok(path) => unread_part(rt.alloc(), path.as_str(), kind),
         Err(lacking) => Failure::from(lacking),
     }
 }

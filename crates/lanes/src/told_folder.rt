@@ -9,7 +9,7 @@ use crate::part_failures::{Unread, of_folder, refused, unread_for};
 use crate::progress::Progress;
 use crate::putting::{unkept, unwritten};
 use folder_home::{PartFault, PartRefusal, is_part_name};
-use folder_protocol::{Folder, Untaken};
+use folder_protocol::{Folder, Found, Looks, Opened, Sweeps, Untaken};
 use part_folder::{FolderFault, SystemFolder, path_in};
 use std::alloc::{AllocError, Global};
 use std::io::{self, ErrorKind};
@@ -138,17 +138,27 @@ impl<'r, 'n, R: Host> ToldFolder<'r, 'n, R, SystemFolder<'r, R>> {
             return Unread::Refused(self.unlisted(error));
         }
         let kind = error.kind();
-        let Some(name) = self.inner.unread() else {
-            return Unread::Refused(unwritten(self.rt, self.path, kind));
-        };
-        match path_in(self.rt.alloc(), self.path, name) {
-            Ok(path) => unread_for(self.rt, path.as_str(), Some(kind)),
-            Err(lacking) => Unread::from(lacking),
+        match self.inner.unread() {
+            Some(name) => self.unread(name, kind),
+            None => Unread::Refused(unwritten(self.rt, self.path, kind)),
         }
     }
 }
 
 impl<'r, 'n, R: Host, F: Folder + Drop> ToldFolder<'r, 'n, R, F> {
+    /// The path of a name.
+    pub fn path_of(&self, name: &str) -> Result<String, AllocError> {
+        path_in(self.rt.alloc(), self.path, name)
+    }
+
+    /// Why the part of a name is not read, if the system gives this reason.
+    pub fn unread(&self, name: &str, kind: ErrorKind) -> Unread {
+        match self.path_of(name) {
+            Ok(path) => unread_for(self.rt.alloc(), path.as_str(), kind),
+            Err(lacking) => Unread::from(lacking),
+        }
+    }
+
     /// So many of the names that parts have are those of folders: they are passed over.
     pub fn pass_over(&mut self, folders: usize) {
         self.folders = folders;
@@ -234,5 +244,23 @@ impl<'r, 'n, R: Host, F: Folder + Drop> Folder for ToldFolder<'r, 'n, R, F> {
             self.begun.heads.take(bytes.as_slice());
         }
         answer
+    }
+}
+
+impl<'r, 'n, R: Host, F: Looks + Drop> Looks for ToldFolder<'r, 'n, R, F> {
+    type File = F::File;
+
+    fn find(&mut self, name: &str) -> io::Result<Found> {
+        self.inner.find(name)
+    }
+
+    fn open(&mut self, name: &str) -> io::Result<Option<Opened<F::File>>> {
+        self.inner.open(name)
+    }
+}
+
+impl<'r, 'n, R: Host, F: Sweeps + Drop> Sweeps for ToldFolder<'r, 'n, R, F> {
+    fn sweep(&mut self, name: &str) -> io::Result<()> {
+        self.inner.sweep(name)
     }
 }

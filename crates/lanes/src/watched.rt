@@ -1,6 +1,6 @@
-//! A writer that remembers why the system did not take what was written.
+//! A reader or a writer that remembers why the system did not give or take bytes.
 
-use std::io::{self, ErrorKind, Write};
+use std::io::{self, ErrorKind, Read, Write};
 use table_model::Refusal;
 
 /// Why a command ends: what is refused, and of a failed write the system's reason, if it is known.
@@ -19,20 +19,25 @@ impl From<Refusal> for Cause {
     }
 }
 
-/// A writer, with the kind of its last error.
+/// A reader or a writer, with the kind of its last error.
 #[derive(Drop)]
-pub struct Watched<W: Write + Drop> {
-    inner: W,
+pub struct Watched<D: Drop> {
+    inner: D,
     reason: Option<ErrorKind>,
 }
 
-impl<W: Write + Drop> Watched<W> {
-    /// A writer that has not failed yet.
-    pub fn new(inner: W) -> Watched<W> {
+impl<D: Drop> Watched<D> {
+    /// A reader or a writer that has not failed yet.
+    pub fn new(inner: D) -> Watched<D> {
         Watched {
             inner,
             reason: None,
         }
+    }
+
+    /// Why it failed last, if it did.
+    pub fn reason(&self) -> Option<ErrorKind> {
+        self.reason
     }
 
     /// An outcome of writing, with the reason of the last error.
@@ -47,7 +52,19 @@ impl<W: Write + Drop> Watched<W> {
     }
 }
 
-impl<W: Write + Drop> Write for Watched<W> {
+impl<D: Read + Drop> Read for Watched<D> {
+    fn read(&mut self, buffer: &mut [u8]) -> io::Result<usize> {
+        match self.inner.read(buffer) {
+            Ok(count) => Ok(count),
+            Err(error) => {
+                self.reason = Some(error.kind());
+                Err(error)
+            }
+        }
+    }
+}
+
+impl<D: Write + Drop> Write for Watched<D> {
     fn write(&mut self, piece: &[u8]) -> io::Result<usize> {
         match self.inner.write(piece) {
             Ok(count) => Ok(count),
