@@ -10,7 +10,7 @@ mod replacing;
 mod taken;
 mod wanted;
 
-pub use forgetting::{Forgot, forget};
-pub use packing::pack;
+pub use forgetting::{Forgot, forget, left_of};
+pub use packing::{file_of, pack};
 pub use reading::{Read, read_folder, read_named};
-pub use replacing::Replaced;
+pub use replacing::{Replaced, names_for};
