@@ -4,6 +4,7 @@ pub mod ColumnCalls
 pub mod Coverage
 pub mod Expecting
 pub mod Faults
+pub mod FolderPlans
 pub mod FolderTurns
 pub mod Handles
 pub mod HeldRows

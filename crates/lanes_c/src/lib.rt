@@ -9,6 +9,7 @@ mod columns;
 mod coverage;
 mod expecting;
 mod fault;
+mod folder_plans;
 mod folder_turns;
 mod handle;
 mod held_rows;
@@ -39,6 +40,7 @@ pub use columns::{lanes_columns, lanes_columns_between, lanes_schema};
 pub use coverage::{lanes_inspect_partial, lanes_inspect_summary};
 pub use expecting::lanes_finish_expected;
 pub use fault::Place;
+pub use folder_plans::{lanes_head, lanes_packed_prefix};
 pub use folder_turns::{
     FolderCall, lanes_folder_begin, lanes_folder_end, lanes_folder_name, lanes_folder_next,
     lanes_part_name,
