@@ -635,6 +635,24 @@ uint8_t lanes_parts_pack(lanes_parts *parts, const uint8_t *temporary, size_t te
 uint8_t lanes_parts_forget(lanes_parts *parts, const uint8_t *temporary, size_t temporary_length, lanes_turn *turn, size_t *batches,
                            lanes_place *place);
 
+/* Answers how many of a folder's parts are packed next, by their sizes in ascending order: the first ones, up to the greatest that has at most
+ * a seventh of the bytes of those before it together. When it is fewer than two, nothing is to be packed. */
+size_t lanes_packed_prefix(const uint64_t *sizes, size_t sizes_count);
+
+/* Reads the head of a part: opens the empty table of its columns, and tells in *batches how many batches the part has. `bytes` are the front
+ * of the part; the first 4,096 bytes have every head. What the table's handle had is closed when 0 is answered.
+ *
+ * Refused: LANES_TRUNCATED, LANES_BAD_MAGIC, LANES_BAD_VERSION, LANES_BAD_COUNT, LANES_BAD_SCHEMA. */
+uint8_t lanes_head(const uint8_t *bytes, size_t bytes_length, lanes_table *table, size_t *batches, lanes_place *place);
+
+/* Makes the part of a delete in what the parts of a folder hold together, which the table has: the file of the deletions alone of the rows at
+ * which the condition is true. *rows is how many these are; when there are none, there is no part.
+ *
+ * Gives: the part, of no bytes when there is none.
+ * Refused, in this order: LANES_NOT_OPEN, LANES_SYNTAX when the condition is no text, and the condition's first fault. */
+uint8_t lanes_table_delete_part(lanes_table *table, const uint8_t *condition, size_t condition_length, uint64_t *rows, uint8_t *out, size_t room,
+                                size_t *length, lanes_place *place);
+
 /* Closes a handle of parts. Closing a closed one does nothing. */
 void lanes_parts_close(lanes_parts *parts);
 

@@ -5,23 +5,18 @@ from __future__ import annotations
 import errno
 import html
 import os
-import struct
 from typing import Any, Callable, Iterable, Mapping, NamedTuple, Optional, Tuple, TypeVar, Union
 
 from . import arguments, calls, folder_driver, part_folder
 from .answer import Answer
 from .batch_name import GivenName
 from .errors import Busy, Damaged, Refused
-from .holdings import Holdings
 from .partial_answers import Partial
-from .table import Csv, Schema, Table
+from .table import Csv, Table
 from .waiting import Wait
 
 #: How many batches a folder may have.
 _MOST = 1_048_576
-
-#: How many times the bytes of a part that is packed go into those of the parts before it.
-_TIMES = 7
 
 #: What a look at a folder's parts finds.
 _Found = TypeVar("_Found")
@@ -142,15 +137,9 @@ class Folder:
             Refused: a fault of the condition.
         """
         held, names = self._joined()
-        before, after = Holdings.of(held), Holdings.of(held.delete(condition))
-        ranges, rows = [], 0
-        for name in sorted(after.batches, key=lambda name: struct.unpack("<II", name)):
-            for first, last in _without(after.batches[name], before.batches[name]):
-                ranges.append(name + struct.pack("<HH", first, last))
-                rows += last - first + 1
-        if ranges:
-            empty = _empty_of(held)
-            self._put(empty.apply(empty._front() + bytes(4) + len(ranges).to_bytes(8, "little") + b"".join(ranges)))
+        rows, part = held._delete_part(condition)
+        if rows:
+            part_folder.put(self.path, part)
         else:
             part_folder.keep(self.path, names)
         return rows
@@ -339,16 +328,21 @@ class Folder:
         Raises:
             FileNotFoundError: one is gone.
         """
-        front, batches, sizes = b"", 0, []
+        empty, batches, sizes = b"", 0, []
         for name in names:
-            head, size = part_folder.front_of(self.path, name)
-            front = front or _front_in(head)
-            if not front or not head.startswith(front):
+            front, size = part_folder.front_of(self.path, name)
+            try:
+                found, count = calls.head(front)
+            except Refused:
+                found, count = b"", 0
+            empty = empty or found
+            if not found or found != empty:
                 self._taken([names[0], name])
                 raise self._of_part(calls.refused(_SCHEMA_DIFFERS), name)
-            batches += int.from_bytes(head[len(front) : len(front) + 4], "little")
+            batches += count
             sizes.append((size, name))
-        return _Heads(_empty_of(Table._of_parts(self._taken([min(sizes)[1]]))), batches)
+        self._taken([min(sizes)[1]])
+        return _Heads(Table(empty), batches)
 
     def _add(self, load_of: Callable[[Table], Table], is_named: bool) -> int:
         """Puts the batches of a load into the folder, which is made of the empty table; how many are new."""
@@ -409,13 +403,10 @@ class Folder:
         return sorted((size, name) for size, name in sizes if size is not None)
 
     def _chosen(self, everything: bool) -> list[str]:
-        """The parts that are joined next: the first ones, up to the greatest that has at most a seventh of the bytes of those before it."""
-        sized, before, count = self._sized(), 0, 0
-        for at, (size, _) in enumerate(sized):
-            if _TIMES * size <= before:
-                count = at + 1
-            before += size
-        return [name for _, name in (sized if everything else sized[:count])]
+        """The parts that are joined next."""
+        sized = self._sized()
+        count = len(sized) if everything else calls.packed_prefix([size for size, _ in sized])
+        return [name for _, name in sized[:count]]
 
     def _pack(self, names: list[str]) -> Optional[int]:
         """Joins parts into one and removes them, but for the one that is the join itself; how many were removed. None if a pack or a forget
@@ -438,28 +429,6 @@ def _empty_of(table: Table) -> Table:
     return Table.create(table.name, table.columns)
 
 
-def _front_in(head: bytes) -> bytes:
-    """The front of a file that begins with these bytes, up to its count of batches; nothing if there is none."""
-    try:
-        return Schema.of(head).front
-    except (IndexError, ValueError):
-        return b""
-
-
 def _lacked(own: Table, held: Table) -> Table:
     """The batches of a table that another one does not have, and all its deletions."""
     return _empty_of(held).apply(own.offer(held.summary()))
-
-
-def _without(ranges: bytes, others: bytes) -> Iterable[Tuple[int, int]]:
-    """The ranges of rows that are in the first list and not in the second, whose ranges are all in the first."""
-    gaps = list(struct.iter_unpack("<HH", others))
-    at = 0
-    for first, last in struct.iter_unpack("<HH", ranges):
-        while at < len(gaps) and gaps[at][0] <= last:
-            if first < gaps[at][0]:
-                yield first, gaps[at][0] - 1
-            first = gaps[at][1] + 1
-            at += 1
-        if first <= last:
-            yield first, last

@@ -360,6 +360,13 @@ class Table:
         with conditions.judged("condition", text, self.columns):
             return self._made(calls.made(calls.DELETE, 2 * self._length() + _ROOM, self._file, text))
 
+    def _delete_part(self, condition: str) -> tuple[int, bytes]:
+        """How many rows a delete finds, and the file of their deletions alone."""
+        text = arguments.text_of("condition", condition)
+        with conditions.judged("condition", text, self.columns):
+            rows, part = self._asked().delete_part(_ROOM, text)
+        return rows, bytes(part)
+
     def delete_rows(self: _Self, batch: GivenName, first: int, last: Optional[int] = None, *, held: bool = False) -> _Self:
         """The table without the rows of a batch from one ordinal to another, both included; without `last` one row. Ordinals are from 0
         to 65,535, as `dump(names=True)` has them. Rows that the table doesn't have yet are deleted when they come.

@@ -171,6 +171,43 @@ static void try_forget(const part *of, size_t wanted, bytes left) {
     }
 }
 
+/* What is packed next, by sizes; and what a head says, of which the front of a part is enough. */
+static void try_plans(part one, bytes empty) {
+    static const uint64_t sizes[] = {7, 7, 2, 100, 17, 900};
+    lanes_table table = LANES_CLOSED;
+    lanes_place place;
+    size_t batches = 7;
+    expect(lanes_packed_prefix(sizes, 0) == 0 && lanes_packed_prefix(sizes, 2) == 0 && lanes_packed_prefix(sizes, 3) == 3, "the first parts");
+    expect(lanes_packed_prefix(sizes, 4) == 3 && lanes_packed_prefix(sizes, 5) == 5 && lanes_packed_prefix(sizes, 6) == 5, "up to the greatest small one");
+    expect(lanes_head(one.file.at, 64, &table, &batches, &place) == 0 && batches == 1, "a head");
+    expect_file(&table, empty, "says the columns");
+    expect(lanes_head(one.file.at, 8, &table, &batches, &place) == LANES_TRUNCATED && batches == 0 && place.first == 8, "a head that is cut off");
+    expect_file(&table, empty, "the table is as it was");
+    lanes_close(&table);
+}
+
+/* The part of a delete has its deletions alone. */
+static void try_delete_part(part one, part dead, bytes empty) {
+    lanes_table table = opened(one.file), deleted = opened(empty);
+    lanes_place place;
+    bytes made;
+    uint64_t rows = 7;
+    size_t none = 7;
+    uint8_t nothing = 0;
+    expect(lanes_table_delete_part(&table, text_of("A = 9"), 5, &rows, &nothing, 0, &none, &place) == 0 && rows == 0 && none == 0, "no row is found");
+    expect(lanes_table_delete_part(&table, text_of("B = 9"), 5, &rows, &nothing, 0, &none, &place) == LANES_NO_SUCH_COLUMN && rows == 0, "a condition that is refused");
+    TAKE(made, lanes_table_delete_part(&table, text_of("A = 3"), 5, &rows, out, room, &length, &place));
+    expect(rows == 1, "a row is found");
+    expect(lanes_table_apply(&deleted, made.at, made.length, &place) == 0 && lanes_batches(&deleted) == 0, "the part has no batch");
+    expect_file(&table, one.file, "the table is as it was");
+    expect(lanes_table_apply(&table, made.at, made.length, &place) == 0, "the part is applied");
+    expect_file(&table, dead.file, "and the row is deleted");
+    lanes_close(&table);
+    expect(lanes_table_delete_part(&table, text_of("A = 3"), 5, &rows, &nothing, 0, &none, &place) == LANES_NOT_OPEN && rows == 0, "no table");
+    lanes_close(&deleted);
+    free(made.at);
+}
+
 static bytes merged_of(const part *of) {
     bytes merged;
     TAKE(merged, lanes_merge(of[0].file.at, of[0].file.length, of[1].file.at, of[1].file.length, out, room, &length, &place));
@@ -179,7 +216,7 @@ static bytes merged_of(const part *of) {
 
 int main(void) {
     part one = part_of("A\n1\n2\n", 1), two = part_of("A\n3\n", 2), dead = without(two, "A = 3"), pair[2] = {one, two}, half_dead[2] = {one, dead}, packed[2];
-    bytes merged = merged_of(pair), mixed = merged_of(half_dead), left;
+    bytes empty = table_of("T A INTEGER"), merged = merged_of(pair), mixed = merged_of(half_dead), left;
     TAKE(left, lanes_forget(mixed.at, mixed.length, out, room, &length, &place));
     packed[0] = part_with(merged);
     packed[1] = two;
@@ -190,6 +227,9 @@ int main(void) {
     try_pack(packed, 2, merged, 1);
     try_forget(pair, 0, merged);
     try_forget(half_dead, 1, left);
+    try_plans(one, empty);
+    try_delete_part(two, dead, empty);
+    free(empty.at);
     free(one.file.at);
     free(two.file.at);
     free(dead.file.at);

@@ -2,6 +2,7 @@ pub mod Between
 pub mod Calls
 pub mod ColumnCalls
 pub mod Coverage
+pub mod DeletePart
 pub mod Expecting
 pub mod Faults
 pub mod FolderPlans
