@@ -5,29 +5,24 @@ from __future__ import annotations
 import errno
 import html
 import os
-import struct
 from typing import Any, Callable, Iterable, Mapping, NamedTuple, Optional, Tuple, TypeVar, Union
 
 from . import arguments, calls, folder_driver, part_folder
 from .answer import Answer
 from .batch_name import GivenName
-from .errors import Busy, Refused
-from .holdings import Holdings
+from .errors import Busy, Damaged, Refused
 from .partial_answers import Partial
-from .table import Csv, Schema, Table
+from .table import Csv, Table
 from .waiting import Wait
 
 #: How many batches a folder may have.
 _MOST = 1_048_576
 
-#: How many times the bytes of a part that is packed go into those of the parts before it.
-_TIMES = 7
-
 #: What a look at a folder's parts finds.
 _Found = TypeVar("_Found")
 
 #: The numbers of refusals that are made here.
-_FULL, _SCHEMA_DIFFERS = 3, 8
+_FULL, _SCHEMA_DIFFERS, _DAMAGED = 3, 8, 45
 
 
 class _Heads(NamedTuple):
@@ -142,15 +137,9 @@ class Folder:
             Refused: a fault of the condition.
         """
         held, names = self._joined()
-        before, after = Holdings.of(held), Holdings.of(held.delete(condition))
-        ranges, rows = [], 0
-        for name in sorted(after.batches, key=lambda name: struct.unpack("<II", name)):
-            for first, last in _without(after.batches[name], before.batches[name]):
-                ranges.append(name + struct.pack("<HH", first, last))
-                rows += last - first + 1
-        if ranges:
-            empty = _empty_of(held)
-            self._put(empty.apply(empty._front() + bytes(4) + len(ranges).to_bytes(8, "little") + b"".join(ranges)))
+        rows, part = held._delete_part(condition)
+        if rows:
+            part_folder.put(self.path, part)
         else:
             part_folder.keep(self.path, names)
         return rows
@@ -229,13 +218,13 @@ class Folder:
         """
         wait = self._wait()
         while True:
-            held, names = self._joined()
-            left = held.forget()
-            if left == held:
+            parts, names = self._looked(self._taken)
+            turn, batches = parts.forget(folder_driver.temporary())
+            if not batches:
                 part_folder.keep(self.path, names)
                 return 0
-            if part_folder.replace(self.path, left.to_bytes(), names) is not None:
-                return held.check()[0] - left.check()[0]
+            if part_folder.replace(self.path, turn, parts.length) is not None:
+                return batches
             wait.again()
 
     def parts(self) -> list[str]:
@@ -279,7 +268,8 @@ class Folder:
 
     def _joined(self) -> Tuple[Table, list[str]]:
         """What all parts hold, and their names."""
-        return self._looked(self._join)
+        parts, names = self._looked(self._taken)
+        return Table._of_parts(parts), names
 
     def _looked(self, look: Callable[[list[str]], _Found]) -> Tuple[_Found, list[str]]:
         """What a look at all parts finds, and their names. If a part is gone meanwhile, a pack was here, and they are looked at anew.
@@ -300,37 +290,28 @@ class Folder:
                     raise
             wait.again()
 
-    def _join(self, names: list[str]) -> Table:
-        """The join of parts.
+    def _taken(self, names: list[str]) -> calls.Parts:
+        """The parts of these names, read and joined.
 
         Raises:
             FileNotFoundError: one is gone.
         """
-        tables = []
+        parts = calls.Parts()
         for name in names:
+            data = part_folder.read_part(self.path, name)
             try:
-                tables.append(Table.from_bytes(part_folder.read_part(self.path, name)))
+                parts.take(name, data)
             except Refused as refusal:
                 raise self._of_part(refusal, name) from None
-        try:
-            return tables[0].merge(*tables[1:])
-        except Refused as refusal:
-            raise self._which(refusal, names, tables) from None
+        return parts
 
-    def _which(self, refusal: Refused, names: list[str], tables: list[Table]) -> Refused:
-        """The refusal of the first part that doesn't go with those before it."""
-        whole = tables[0]
-        for name, table in zip(names[1:], tables[1:]):
-            try:
-                whole = whole.merge(table)
-            except Refused as found:
-                return self._of_part(found, name)
-        return refusal
-
-    def _of_part(self, refusal: Refused, name: str) -> Refused:
+    def _of_part(self, refusal: Refused, name: str) -> Exception:
         """A refusal whose sentence names the part."""
+        path = os.path.join(self.path, name)
+        if refusal.number == _DAMAGED:
+            return Damaged(path)
         first, second, *_ = (*refusal.place, 0, 0)
-        return Refused(refusal.number, refusal.name, (first, second), f"{os.path.join(self.path, name)}: {refusal.sentence}")
+        return Refused(refusal.number, refusal.name, (first, second), f"{path}: {refusal.sentence}")
 
     def _heads(self) -> _Heads:
         """What the heads of the parts say. The smallest part is read whole.
@@ -347,16 +328,21 @@ class Folder:
         Raises:
             FileNotFoundError: one is gone.
         """
-        front, batches, sizes = b"", 0, []
+        empty, batches, sizes = b"", 0, []
         for name in names:
-            head, size = part_folder.front_of(self.path, name)
-            front = front or _front_in(head)
-            if not front or not head.startswith(front):
-                self._join([names[0], name])
+            front, size = part_folder.front_of(self.path, name)
+            try:
+                found, count = calls.head(front)
+            except Refused:
+                found, count = b"", 0
+            empty = empty or found
+            if not found or found != empty:
+                self._taken([names[0], name])
                 raise self._of_part(calls.refused(_SCHEMA_DIFFERS), name)
-            batches += int.from_bytes(head[len(front) : len(front) + 4], "little")
+            batches += count
             sizes.append((size, name))
-        return _Heads(_empty_of(self._join([min(sizes)[1]])), batches)
+        self._taken([min(sizes)[1]])
+        return _Heads(Table(empty), batches)
 
     def _add(self, load_of: Callable[[Table], Table], is_named: bool) -> int:
         """Puts the batches of a load into the folder, which is made of the empty table; how many are new."""
@@ -395,7 +381,7 @@ class Folder:
         def look(found: list[str]) -> None:
             since = [name for name in found if name not in names]
             if since:
-                part.merge(self._join(since))
+                part.merge(Table._of_parts(self._taken(since)))
 
         data, wait = part.to_bytes(), self._wait()
         try:
@@ -417,24 +403,21 @@ class Folder:
         return sorted((size, name) for size, name in sizes if size is not None)
 
     def _chosen(self, everything: bool) -> list[str]:
-        """The parts that are joined next: the first ones, up to the greatest that has at most a seventh of the bytes of those before it."""
-        sized, before, count = self._sized(), 0, 0
-        for at, (size, _) in enumerate(sized):
-            if _TIMES * size <= before:
-                count = at + 1
-            before += size
-        return [name for _, name in (sized if everything else sized[:count])]
+        """The parts that are joined next."""
+        sized = self._sized()
+        count = len(sized) if everything else calls.packed_prefix([size for size, _ in sized])
+        return [name for _, name in sized[:count]]
 
     def _pack(self, names: list[str]) -> Optional[int]:
         """Joins parts into one and removes them, but for the one that is the join itself; how many were removed. None if a pack or a forget
         was here meanwhile."""
         try:
-            joined = self._join(names)
+            parts = self._taken(names)
         except FileNotFoundError as gone:
             if folder_driver.leads_nowhere(gone.filename):
                 raise
             return None
-        return part_folder.replace(self.path, joined.to_bytes(), names)
+        return part_folder.replace(self.path, parts.pack(folder_driver.temporary()), parts.length)
 
     def _wait(self) -> Wait:
         """A wait for others, who take parts away."""
@@ -446,28 +429,6 @@ def _empty_of(table: Table) -> Table:
     return Table.create(table.name, table.columns)
 
 
-def _front_in(head: bytes) -> bytes:
-    """The front of a file that begins with these bytes, up to its count of batches; nothing if there is none."""
-    try:
-        return Schema.of(head).front
-    except (IndexError, ValueError):
-        return b""
-
-
 def _lacked(own: Table, held: Table) -> Table:
     """The batches of a table that another one does not have, and all its deletions."""
     return _empty_of(held).apply(own.offer(held.summary()))
-
-
-def _without(ranges: bytes, others: bytes) -> Iterable[Tuple[int, int]]:
-    """The ranges of rows that are in the first list and not in the second, whose ranges are all in the first."""
-    gaps = list(struct.iter_unpack("<HH", others))
-    at = 0
-    for first, last in struct.iter_unpack("<HH", ranges):
-        while at < len(gaps) and gaps[at][0] <= last:
-            if first < gaps[at][0]:
-                yield first, gaps[at][0] - 1
-            first = gaps[at][1] + 1
-            at += 1
-        if first <= last:
-            yield first, last

@@ -164,6 +164,14 @@ class Table:
         table._asked()
         return table
 
+    @classmethod
+    def _of_parts(cls: Type[_Self], parts: calls.Parts) -> _Self:
+        """The table of what parts of a folder hold together."""
+        opened = parts.opened()
+        table = cls(opened.file(parts.length + _ROOM))
+        table._opened = opened
+        return table
+
     def to_bytes(self) -> bytes:
         """The canonical file."""
         return bytes(self._file)
@@ -352,6 +360,13 @@ class Table:
         with conditions.judged("condition", text, self.columns):
             return self._made(calls.made(calls.DELETE, 2 * self._length() + _ROOM, self._file, text))
 
+    def _delete_part(self, condition: str) -> tuple[int, bytes]:
+        """How many rows a delete finds, and the file of their deletions alone."""
+        text = arguments.text_of("condition", condition)
+        with conditions.judged("condition", text, self.columns):
+            rows, part = self._asked().delete_part(_ROOM, text)
+        return rows, bytes(part)
+
     def delete_rows(self: _Self, batch: GivenName, first: int, last: Optional[int] = None, *, held: bool = False) -> _Self:
         """The table without the rows of a batch from one ordinal to another, both included; without `last` one row. Ordinals are from 0
         to 65,535, as `dump(names=True)` has them. Rows that the table doesn't have yet are deleted when they come.
@@ -466,7 +481,7 @@ class Table:
         """What queries are asked of. Two threads that ask first at the same time may both open it; one opening stays."""
         opened = self._opened
         if opened is None:
-            opened = self._opened = calls.Opened(self._file)
+            opened = self._opened = calls.Opened.of_file(self._file)
         return opened
 
     def _schema(self) -> Schema:

@@ -2,8 +2,10 @@ pub mod Between
 pub mod Calls
 pub mod ColumnCalls
 pub mod Coverage
+pub mod DeletePart
 pub mod Expecting
 pub mod Faults
+pub mod FolderPlans
 pub mod FolderTurns
 pub mod Handles
 pub mod HeldRows
@@ -12,6 +14,8 @@ pub mod InputColumns
 pub mod Names
 pub mod Opened
 pub mod PartialAnswers
+pub mod PartsHandles
+pub mod PartsRead
 pub mod Queries
 pub mod Rooms
 pub mod Spreading
