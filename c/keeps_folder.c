@@ -44,67 +44,32 @@ static int is_there(uint64_t came) {
     return came == LANES_ON_DISK || came == LANES_UNSYNCED;
 }
 
-/* Reads a file whole; 0 if it is gone. */
-static int read_whole(const char *folder, const char *name, bytes *whole) {
-    char path[4096];
-    snprintf(path, sizeof path, "%s/%s", folder, name);
-    FILE *file = fopen(path, "rb");
-    if (!file) return 0;
-    fseek(file, 0, SEEK_END);
-    long size = ftell(file);
-    if (size < 0) exit(2);
-    rewind(file);
-    *whole = (bytes){room_for((size_t)size), (size_t)size};
-    if (fread(whole->at, 1, whole->length, file) != whole->length) exit(2);
-    fclose(file);
-    return 1;
-}
-
-/* Merges a second file into a first one. */
-static void merge(bytes *whole, bytes part) {
-    lanes_place place;
-    size_t room = whole->length + part.length, length;
-    bytes both = {room_for(room), 0};
-    expect(lanes_merge(whole->at, whole->length, part.at, part.length, both.at, room, &length, &place), place);
-    if (length > room) { /* the merged file has more bytes than both */
-        free(both.at);
-        both.at = room_for(room = length);
-        expect(lanes_merge(whole->at, whole->length, part.at, part.length, both.at, room, &length, &place), place);
-    }
-    free(whole->at);
-    free(part.at);
-    *whole = (bytes){both.at, length};
-}
-
-/* The file of what all parts hold, and their names. If a part is gone meanwhile, all are listed anew. */
-static bytes joined(const char *folder, lanes_part_names *names) {
+/* The parts of a folder, read and joined, and their names. If a part is gone meanwhile, all are listed anew. */
+static lanes_parts taken(const char *folder, lanes_part_names *names) {
     static const uint8_t none;
     for (int look = 0; look < TRIES; look++) {
+        lanes_parts parts = LANES_NO_PARTS;
         lanes_place place;
         uint64_t came;
-        size_t at = 0;
-        bytes whole = {NULL, 0}, part;
+        size_t at;
+        int is_gone;
         expect(lanes_folder_follow(folder, LANES_FOLDER_LIST, &none, 0, NULL, names, &came, &place), place);
-        for (; at < names->count && read_whole(folder, names->names[at], &part); at++) {
-            uint8_t name[LANES_PART_NAME];
-            size_t length;
-            expect(lanes_part_name(part.at, part.length, name, sizeof name, &length, &place), place);
-            expect(memcmp(name, names->names[at], length) ? LANES_DAMAGED : 0, (lanes_place){0, 0});
-            if (whole.at) merge(&whole, part);
-            else whole = part;
-        }
-        if (whole.at && at == names->count) return whole;
-        free(whole.at);
+        uint8_t number = lanes_folder_take(folder, names, &parts, &is_gone, &at, &place);
+        if (number) fprintf(stderr, "%s/%s: ", folder, names->names[at]);
+        expect(number, place);
+        if (!is_gone) return parts;
         free(names->names);
     }
     exit(2);
 }
 
-/* The same bytes once more. */
-static bytes copied(bytes of) {
-    bytes copy = {room_for(of.length), of.length};
-    memcpy(copy.at, of.at, of.length);
-    return copy;
+/* What all parts hold, as a table. */
+static lanes_table opened(const char *folder, lanes_part_names *names) {
+    lanes_table table = LANES_CLOSED;
+    lanes_place place;
+    lanes_parts parts = taken(folder, names);
+    expect(lanes_parts_open(&parts, &table, &place), place);
+    return table;
 }
 
 /* Puts a part, again if what had its name is gone meanwhile. */
@@ -125,15 +90,11 @@ static bytes created(const uint8_t *words, size_t length) {
 }
 
 /* The file of the empty table of the same columns. */
-static bytes emptied(bytes whole) {
-    lanes_table table = LANES_CLOSED;
+static bytes emptied(lanes_table *table) {
     lanes_place place;
     uint8_t words[4096];
     size_t length;
-    expect(lanes_open(whole.at, whole.length, &table, &place), place);
-    expect(lanes_schema(&table, words, sizeof words, &length, &place), place);
-    lanes_close(&table);
-    free(whole.at);
+    expect(lanes_schema(table, words, sizeof words, &length, &place), place);
     return created(words, length);
 }
 
@@ -157,7 +118,9 @@ static bytes loaded(bytes empty, const char *csv, uint32_t number) {
 
 static void import(const char *folder, const char *csv) {
     lanes_part_names names;
-    put(folder, loaded(emptied(joined(folder, &names)), csv, 0));
+    lanes_table table = opened(folder, &names);
+    put(folder, loaded(emptied(&table), csv, 0));
+    lanes_close(&table);
     free(names.names);
 }
 
@@ -167,10 +130,11 @@ static void load(const char *folder, uint32_t number, const char *csv) {
         lanes_part_names names;
         lanes_place place;
         uint64_t came;
-        bytes whole = joined(folder, &names), batch = loaded(emptied(copied(whole)), csv, number);
-        merge(&whole, copied(batch));
+        lanes_table table = opened(folder, &names);
+        bytes batch = loaded(emptied(&table), csv, number);
+        expect(lanes_table_apply(&table, batch.at, batch.length, &place), place);
         expect(lanes_folder_follow(folder, LANES_FOLDER_PUT_JUDGED, batch.at, batch.length, &names, NULL, &came, &place), place);
-        free(whole.at);
+        lanes_close(&table);
         free(batch.at);
         free(names.names);
         if (is_there(came)) return;
@@ -183,29 +147,39 @@ static void query(const char *folder, const char *sql) {
     lanes_place place;
     static uint8_t answer[1 << 20];
     size_t length;
-    bytes whole = joined(folder, &names);
-    expect(lanes_query(whole.at, whole.length, (const uint8_t *)sql, strlen(sql), answer, sizeof answer, &length, &place), place);
+    lanes_table table = opened(folder, &names);
+    expect(lanes_ask(&table, (const uint8_t *)sql, strlen(sql), answer, sizeof answer, &length, &place), place);
     fwrite(answer, 1, length < sizeof answer ? length : sizeof answer, stdout);
-    free(whole.at);
+    lanes_close(&table);
     free(names.names);
+}
+
+/* The part of a turn. */
+static bytes part_of(lanes_turn *turn) {
+    static uint8_t none;
+    lanes_place place;
+    bytes part;
+    expect(lanes_folder_part(turn, &none, 0, &part.length, &place), place);
+    part.at = room_for(part.length);
+    expect(lanes_folder_part(turn, part.at, part.length, &part.length, &place), place);
+    return part;
 }
 
 /* Joins all parts into one, which comes in their place; again if another process was there meanwhile. */
 static void pack(const char *folder) {
     for (int tried = 0; tried < TRIES; tried++) {
         lanes_part_names names;
+        lanes_turn turn = LANES_NO_TURN;
+        lanes_temporary temporary;
         lanes_place place;
         uint64_t came;
-        uint8_t name[LANES_PART_NAME];
-        size_t length, kept = 0;
-        bytes whole = joined(folder, &names);
-        expect(lanes_part_name(whole.at, whole.length, name, sizeof name, &length, &place), place);
-        for (size_t i = 0; i < names.count; i++)
-            if (memcmp(names.names[i], name, length)) memmove(names.names[kept++], names.names[i], LANES_PART_NAME);
-        names.count = kept;
-        expect(lanes_folder_follow(folder, LANES_FOLDER_REPLACE, whole.at, whole.length, &names, NULL, &came, &place), place);
-        free(whole.at);
+        lanes_parts parts = taken(folder, &names);
         free(names.names);
+        expect(lanes_folder_draw(temporary, &place), place);
+        expect(lanes_parts_pack(&parts, (const uint8_t *)temporary, strlen(temporary), &turn, &place), place);
+        bytes part = part_of(&turn);
+        expect(lanes_folder_drive(folder, &turn, part.at, part.length, NULL, &came, &place), place);
+        free(part.at);
         if (is_there(came)) return;
     }
     exit(2);

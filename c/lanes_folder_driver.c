@@ -28,7 +28,7 @@ typedef struct {
     uint8_t *found; /* what a read found */
     size_t found_length;
     lanes_part_names listed;
-    lanes_turn turn;
+    lanes_turn *turn;
 } driver;
 
 /* What is told of a call: an answer, and an error's number or how many bytes were written. */
@@ -127,7 +127,7 @@ static told list(driver *d) {
         if (!kept || strcmp(d->listed.names[i], d->listed.names[kept - 1])) memmove(d->listed.names[kept++], d->listed.names[i], LANES_PART_NAME);
     d->listed.count = kept;
     for (size_t i = 0; i < kept; i++)
-        if (lanes_folder_name((const uint8_t *)d->listed.names[i], LANES_PART_NAME - 1, &d->turn, &place)) return (told){LANES_FAILED, ENOMEM};
+        if (lanes_folder_name((const uint8_t *)d->listed.names[i], LANES_PART_NAME - 1, d->turn, &place)) return (told){LANES_FAILED, ENOMEM};
     return (told){LANES_LISTED, 0};
 }
 
@@ -184,7 +184,7 @@ static uint8_t drive(driver *d, uint64_t *came, lanes_place *place) {
         lanes_call call;
         size_t length;
         const uint8_t *bytes = last.answer == LANES_FOUND ? d->found : &no_bytes;
-        uint8_t number = lanes_folder_next(&d->turn, last.answer, last.number, bytes, last.answer == LANES_FOUND ? d->found_length : 0, &call,
+        uint8_t number = lanes_folder_next(d->turn, last.answer, last.number, bytes, last.answer == LANES_FOUND ? d->found_length : 0, &call,
                                            (uint8_t *)d->names, ROOM, &length, place);
         if (number) return number;
         *came = call.number;
@@ -195,38 +195,28 @@ static uint8_t drive(driver *d, uint64_t *came, lanes_place *place) {
     }
 }
 
-/* The name of a new temporary; 0 if the system has no random numbers. */
-static int draw(char *name, size_t room) {
+/* The system's reason why a call failed, as a refusal. */
+static uint8_t refused_by_system(lanes_place *place) {
+    *place = (lanes_place){(uint64_t)errno, 0};
+    return LANES_SYSTEM;
+}
+
+uint8_t lanes_folder_draw(lanes_temporary name, lanes_place *place) {
     uint64_t number;
     int file = open("/dev/urandom", O_RDONLY | O_CLOEXEC);
     int is_drawn = file >= 0 && read(file, &number, sizeof number) == (ssize_t)sizeof number;
     let_go(&file);
-    return is_drawn && snprintf(name, room, ".part-%016llx", (unsigned long long)number) > 0;
+    if (!is_drawn) return refused_by_system(place);
+    snprintf(name, sizeof(lanes_temporary), ".part-%016llx", (unsigned long long)number);
+    return 0;
 }
 
-static uint8_t begin(driver *d, uint8_t command, const lanes_part_names *about, lanes_place *place) {
-    char temporary[64];
-    if (!draw(temporary, sizeof temporary)) {
-        *place = (lanes_place){(uint64_t)errno, 0};
-        return LANES_SYSTEM;
-    }
-    uint8_t number = lanes_folder_begin(command, (const uint8_t *)temporary, strlen(temporary), d->part, d->part_length, &d->turn, place);
-    for (size_t i = 0; !number && about && i < about->count; i++)
-        number = lanes_folder_name((const uint8_t *)about->names[i], LANES_PART_NAME - 1, &d->turn, place);
-    return number;
-}
-
-uint8_t lanes_folder_follow(const char *path, uint8_t command, const uint8_t *part, size_t part_length, const lanes_part_names *about,
-                            lanes_part_names *listed, uint64_t *came, lanes_place *place) {
-    driver d = {.folder = open(path, O_RDONLY | O_DIRECTORY | O_CLOEXEC), .file = -1, .lock = -1, .part = part, .part_length = part_length};
+uint8_t lanes_folder_drive(const char *path, lanes_turn *turn, const uint8_t *part, size_t part_length, lanes_part_names *listed, uint64_t *came,
+                           lanes_place *place) {
+    driver d = {.folder = open(path, O_RDONLY | O_DIRECTORY | O_CLOEXEC), .file = -1, .lock = -1, .part = part, .part_length = part_length, .turn = turn};
     *came = 0;
-    if (d.folder < 0) {
-        *place = (lanes_place){(uint64_t)errno, 0};
-        return LANES_SYSTEM;
-    }
-    uint8_t number = begin(&d, command, about, place);
-    if (!number) number = drive(&d, came, place);
-    lanes_folder_end(&d.turn);
+    uint8_t number = d.folder < 0 ? refused_by_system(place) : drive(&d, came, place);
+    lanes_folder_end(turn);
     if (d.temporary[0]) unlinkat(d.folder, d.temporary, 0);
     if (listed && !number) {
         *listed = d.listed;
@@ -236,6 +226,43 @@ uint8_t lanes_folder_follow(const char *path, uint8_t command, const uint8_t *pa
     free(d.found);
     let_go(&d.file);
     let_go(&d.lock);
+    let_go(&d.folder);
+    return number;
+}
+
+uint8_t lanes_folder_follow(const char *path, uint8_t command, const uint8_t *part, size_t part_length, const lanes_part_names *about,
+                            lanes_part_names *listed, uint64_t *came, lanes_place *place) {
+    lanes_turn turn = LANES_NO_TURN;
+    lanes_temporary temporary;
+    *came = 0;
+    uint8_t number = lanes_folder_draw(temporary, place);
+    if (!number) number = lanes_folder_begin(command, (const uint8_t *)temporary, strlen(temporary), part, part_length, &turn, place);
+    for (size_t i = 0; !number && about && i < about->count; i++)
+        number = lanes_folder_name((const uint8_t *)about->names[i], LANES_PART_NAME - 1, &turn, place);
+    if (!number) return lanes_folder_drive(path, &turn, part, part_length, listed, came, place);
+    lanes_folder_end(&turn);
+    return number;
+}
+
+uint8_t lanes_folder_take(const char *path, const lanes_part_names *names, lanes_parts *parts, int *is_gone, size_t *at, lanes_place *place) {
+    driver d = {.folder = open(path, O_RDONLY | O_DIRECTORY | O_CLOEXEC), .file = -1, .lock = -1};
+    uint8_t number = d.folder < 0 ? refused_by_system(place) : 0;
+    *is_gone = 0;
+    *at = 0;
+    for (size_t i = 0; !number && !*is_gone && i < names->count; i++) {
+        *at = i;
+        memcpy(d.names, names->names[i], LANES_PART_NAME);
+        told found = read_file(&d);
+        *is_gone = found.answer == LANES_NO_FILE;
+        if (found.answer == LANES_FAILED) {
+            *place = (lanes_place){found.number, 0};
+            number = LANES_SYSTEM;
+        }
+        if (found.answer == LANES_FOUND) number = lanes_parts_take(parts, (const uint8_t *)d.names, LANES_PART_NAME - 1, d.found, d.found_length, place);
+    }
+    if (number || *is_gone) lanes_parts_close(parts);
+    free(d.found);
+    let_go(&d.file);
     let_go(&d.folder);
     return number;
 }

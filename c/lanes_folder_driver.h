@@ -16,6 +16,22 @@ typedef struct lanes_part_names {
     size_t count;
 } lanes_part_names;
 
+/* The name of a new temporary, with a byte 0 at its end. */
+typedef char lanes_temporary[32];
+
+/* Draws the name of a temporary. Answers 0, or LANES_SYSTEM if the system has no random numbers. */
+uint8_t lanes_folder_draw(lanes_temporary name, lanes_place *place);
+
+/* Follows a turn that was begun, as by lanes_parts_pack, in the folder of a path, and ends it. `part` are the bytes of its part, as
+ * lanes_folder_part gives them. Answers as lanes_folder_follow. */
+uint8_t lanes_folder_drive(const char *path, lanes_turn *turn, const uint8_t *part, size_t part_length, lanes_part_names *listed, uint64_t *came,
+                           lanes_place *place);
+
+/* Reads the parts of these names in the folder of a path, and takes them into a handle that is closed. *is_gone is 1 if one of them is gone
+ * meanwhile, so that they are to be listed anew; else it is 0. *at is the part that was refused or is gone. Answers 0, or the number of a refusal,
+ * with its place; the handle is closed then, and if a part is gone. */
+uint8_t lanes_folder_take(const char *path, const lanes_part_names *names, lanes_parts *parts, int *is_gone, size_t *at, lanes_place *place);
+
 /* Follows a command of lanes.h in the folder of a path. `about` are the parts that are replaced, removed or kept, or that were looked at; it may
  * be null, for none.
  * `listed` is given the names that a listing gave, and may be null; free() frees them.

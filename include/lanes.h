@@ -563,6 +563,11 @@ uint8_t lanes_folder_begin(uint8_t command, const uint8_t *temporary, size_t tem
  * Refused: LANES_NOT_OPEN when there is no turn; LANES_SYNTAX when the name is no text, so that it is no part's. */
 uint8_t lanes_folder_name(const uint8_t *name, size_t name_length, lanes_turn *turn, lanes_place *place);
 
+/* Gives the bytes of the part that a turn is about: of a turn of lanes_parts_pack or lanes_parts_forget they are what LANES_CALL_WRITE writes.
+ *
+ * Refused: LANES_NOT_OPEN when there is no turn. */
+uint8_t lanes_folder_part(lanes_turn *turn, uint8_t *out, size_t room, size_t *length, lanes_place *place);
+
 /* Tells what came of the call that was asked for, and asks for the next one: `call` has its kind and its number, and `out` its names, one
  * after the other. The names are the one of the temporary, that of the part, which has 38 bytes, and those of lanes_folder_name. If they
  * don't fit, call again with more room and LANES_NOTHING.
@@ -576,6 +581,62 @@ uint8_t lanes_folder_next(lanes_turn *turn, uint8_t answer, uint64_t number, con
 
 /* Ends a turn. Ending none does nothing. */
 void lanes_folder_end(lanes_turn *turn);
+
+/* Parts of a folder that the program has read: the library joins them, and what is made of them goes by their names. A handle of parts is as
+ * one of a table: set it to LANES_NO_PARTS before its first use, don't copy it, give it to one call at a time, and close it. Leave it on its
+ * thread.
+ *
+ *     lanes_parts parts = LANES_NO_PARTS;
+ *     for each name that LANES_FOLDER_LIST gave: read the file of this name, and
+ *         number = lanes_parts_take(&parts, name, name_length, bytes, bytes_length, &place);
+ *     number = lanes_parts_pack(&parts, temporary, temporary_length, &turn, &place);
+ *     follow the turn to its end
+ *
+ * If a file is gone meanwhile, or the turn comes to LANES_GONE, another process has packed the folder: close the handle and list the names
+ * anew. A turn that is begun so is in turn, as lanes_folder_next has it, if each part that was taken was read under its name: the new part has
+ * all that they have, and no other part is removed. */
+typedef struct lanes_parts {
+    void *read;
+} lanes_parts;
+
+/* A handle without parts. */
+#ifdef __cplusplus
+#define LANES_NO_PARTS (lanes_parts{})
+#else
+#define LANES_NO_PARTS ((lanes_parts){NULL})
+#endif
+
+/* Takes a part: its name, and the bytes of the file of this name. It is joined to those that were taken before; the bytes may go then.
+ *
+ * When the call is refused the handle is closed, and the parts are to be read anew, without this one or with a copy of it.
+ * Refused, in this order: LANES_SYNTAX when the name is no text; LANES_DAMAGED when it is that of other bytes; the first fault of the
+ * bytes; LANES_SCHEMA_DIFFERS, LANES_CONFLICT and LANES_FULL when it does not go with those before it. */
+uint8_t lanes_parts_take(lanes_parts *parts, const uint8_t *name, size_t name_length, const uint8_t *bytes, size_t bytes_length,
+                         lanes_place *place);
+
+/* Opens what the parts hold together as a table, and closes the parts' handle. What the table's handle had is closed when 0 is answered.
+ *
+ * Refused: LANES_NOT_OPEN when no part was taken. */
+uint8_t lanes_parts_open(lanes_parts *parts, lanes_table *table, lanes_place *place);
+
+/* Begins a turn that packs the parts, and closes their handle. The file of what they hold together is put in their place: those that were
+ * taken are removed, but for the file itself. `temporary` is the name of a new temporary, as of lanes_folder_begin. lanes_folder_part
+ * gives the file.
+ *
+ * A turn that the handle had is ended, when 0 is answered. When the call is refused it is as it was.
+ * Refused: LANES_NOT_OPEN when no part was taken; LANES_SYNTAX when the temporary's name is no text. */
+uint8_t lanes_parts_pack(lanes_parts *parts, const uint8_t *temporary, size_t temporary_length, lanes_turn *turn, lanes_place *place);
+
+/* Begins a turn that forgets, and closes the parts' handle: the file of what the parts hold together without the batches of which every row is
+ * deleted is put in their place, as by lanes_parts_pack. *batches is how many batches are dropped. When there are none, no turn is begun, and
+ * the turn's handle is as it was; the parts may then be kept by LANES_FOLDER_KEEP_ALL, one after another.
+ *
+ * Refused: as of lanes_parts_pack. */
+uint8_t lanes_parts_forget(lanes_parts *parts, const uint8_t *temporary, size_t temporary_length, lanes_turn *turn, size_t *batches,
+                           lanes_place *place);
+
+/* Closes a handle of parts. Closing a closed one does nothing. */
+void lanes_parts_close(lanes_parts *parts);
 
 /* Gives the name that a part with these bytes has: the first 32 hexadecimal digits of their SHA-512, and ".lanes". A file of another name
  * than its bytes have is damaged.

@@ -11,7 +11,7 @@ from typing import Any, Callable, Iterable, Mapping, NamedTuple, Optional, Tuple
 from . import arguments, calls, folder_driver, part_folder
 from .answer import Answer
 from .batch_name import GivenName
-from .errors import Busy, Refused
+from .errors import Busy, Damaged, Refused
 from .holdings import Holdings
 from .partial_answers import Partial
 from .table import Csv, Schema, Table
@@ -27,7 +27,7 @@ _TIMES = 7
 _Found = TypeVar("_Found")
 
 #: The numbers of refusals that are made here.
-_FULL, _SCHEMA_DIFFERS = 3, 8
+_FULL, _SCHEMA_DIFFERS, _DAMAGED = 3, 8, 45
 
 
 class _Heads(NamedTuple):
@@ -229,13 +229,13 @@ class Folder:
         """
         wait = self._wait()
         while True:
-            held, names = self._joined()
-            left = held.forget()
-            if left == held:
+            parts, names = self._looked(self._taken)
+            turn, batches = parts.forget(folder_driver.temporary())
+            if not batches:
                 part_folder.keep(self.path, names)
                 return 0
-            if part_folder.replace(self.path, left.to_bytes(), names) is not None:
-                return held.check()[0] - left.check()[0]
+            if part_folder.replace(self.path, turn, parts.length) is not None:
+                return batches
             wait.again()
 
     def parts(self) -> list[str]:
@@ -279,7 +279,8 @@ class Folder:
 
     def _joined(self) -> Tuple[Table, list[str]]:
         """What all parts hold, and their names."""
-        return self._looked(self._join)
+        parts, names = self._looked(self._taken)
+        return Table._of_parts(parts), names
 
     def _looked(self, look: Callable[[list[str]], _Found]) -> Tuple[_Found, list[str]]:
         """What a look at all parts finds, and their names. If a part is gone meanwhile, a pack was here, and they are looked at anew.
@@ -300,37 +301,28 @@ class Folder:
                     raise
             wait.again()
 
-    def _join(self, names: list[str]) -> Table:
-        """The join of parts.
+    def _taken(self, names: list[str]) -> calls.Parts:
+        """The parts of these names, read and joined.
 
         Raises:
             FileNotFoundError: one is gone.
         """
-        tables = []
+        parts = calls.Parts()
         for name in names:
+            data = part_folder.read_part(self.path, name)
             try:
-                tables.append(Table.from_bytes(part_folder.read_part(self.path, name)))
+                parts.take(name, data)
             except Refused as refusal:
                 raise self._of_part(refusal, name) from None
-        try:
-            return tables[0].merge(*tables[1:])
-        except Refused as refusal:
-            raise self._which(refusal, names, tables) from None
+        return parts
 
-    def _which(self, refusal: Refused, names: list[str], tables: list[Table]) -> Refused:
-        """The refusal of the first part that doesn't go with those before it."""
-        whole = tables[0]
-        for name, table in zip(names[1:], tables[1:]):
-            try:
-                whole = whole.merge(table)
-            except Refused as found:
-                return self._of_part(found, name)
-        return refusal
-
-    def _of_part(self, refusal: Refused, name: str) -> Refused:
+    def _of_part(self, refusal: Refused, name: str) -> Exception:
         """A refusal whose sentence names the part."""
+        path = os.path.join(self.path, name)
+        if refusal.number == _DAMAGED:
+            return Damaged(path)
         first, second, *_ = (*refusal.place, 0, 0)
-        return Refused(refusal.number, refusal.name, (first, second), f"{os.path.join(self.path, name)}: {refusal.sentence}")
+        return Refused(refusal.number, refusal.name, (first, second), f"{path}: {refusal.sentence}")
 
     def _heads(self) -> _Heads:
         """What the heads of the parts say. The smallest part is read whole.
@@ -352,11 +344,11 @@ class Folder:
             head, size = part_folder.front_of(self.path, name)
             front = front or _front_in(head)
             if not front or not head.startswith(front):
-                self._join([names[0], name])
+                self._taken([names[0], name])
                 raise self._of_part(calls.refused(_SCHEMA_DIFFERS), name)
             batches += int.from_bytes(head[len(front) : len(front) + 4], "little")
             sizes.append((size, name))
-        return _Heads(_empty_of(self._join([min(sizes)[1]])), batches)
+        return _Heads(_empty_of(Table._of_parts(self._taken([min(sizes)[1]]))), batches)
 
     def _add(self, load_of: Callable[[Table], Table], is_named: bool) -> int:
         """Puts the batches of a load into the folder, which is made of the empty table; how many are new."""
@@ -395,7 +387,7 @@ class Folder:
         def look(found: list[str]) -> None:
             since = [name for name in found if name not in names]
             if since:
-                part.merge(self._join(since))
+                part.merge(Table._of_parts(self._taken(since)))
 
         data, wait = part.to_bytes(), self._wait()
         try:
@@ -429,12 +421,12 @@ class Folder:
         """Joins parts into one and removes them, but for the one that is the join itself; how many were removed. None if a pack or a forget
         was here meanwhile."""
         try:
-            joined = self._join(names)
+            parts = self._taken(names)
         except FileNotFoundError as gone:
             if folder_driver.leads_nowhere(gone.filename):
                 raise
             return None
-        return part_folder.replace(self.path, joined.to_bytes(), names)
+        return part_folder.replace(self.path, parts.pack(folder_driver.temporary()), parts.length)
 
     def _wait(self) -> Wait:
         """A wait for others, who take parts away."""

@@ -41,13 +41,15 @@ class Driver:
         self.folder = folder
         self._opened = os.open(folder, os.O_RDONLY | os.O_DIRECTORY | os.O_CLOEXEC)
         self._file = self._lock = -1
-        self._part, self._temporary = b"", ""
+        self._part, self._temporary = memoryview(b""), ""
         self._path = folder
         self._faults: dict[int, OSError] = {}
         #: Why a file or the folder could not be synced, and its path.
         self.unsynced: Optional[tuple[OSError, str]] = None
         #: What the last listing gave.
         self.names: list[str] = []
+        #: How many parts were removed.
+        self.removed = 0
         self._calls = [
             *(self._end, self._make, self._write, self._sync, self._link, self._remove, self._settle),
             *(self._lock_alone, self._lock_shared, self._list, self._read, self._unlock),
@@ -61,10 +63,18 @@ class Driver:
             Damaged: a part has other bytes than its name says.
             OSError: a call failed.
         """
-        self._part = part
-        turn = calls.Turn(command, f".part-{secrets.token_hex(8)}", part)
+        turn = calls.Turn.of(command, temporary(), part)
         for name in names:
             turn.name(name)
+        return self.run(turn, memoryview(part))
+
+    def run(self, turn: calls.Turn, part: memoryview) -> int:
+        """What a turn comes to that puts these bytes.
+
+        Raises:
+            Busy, Damaged, OSError: the same.
+        """
+        self._part = part
         told: _Told = (_NOTHING, 0, b"")
         while True:
             try:
@@ -119,7 +129,7 @@ class Driver:
         return _IS_DONE
 
     def _write(self, number: int, name: str) -> _Told:
-        return _WROTE, os.write(self._file, memoryview(self._part)[number:]), b""
+        return _WROTE, os.write(self._file, self._part[number:]), b""
 
     def _sync(self, number: int, name: str) -> _Told:
         return self._synced(self._file)
@@ -143,6 +153,8 @@ class Driver:
             os.unlink(os.path.join(self.folder, name))
         if name == self._temporary:
             self._temporary = ""
+        else:
+            self.removed += 1
         return _IS_DONE
 
     def _settle(self, number: int, name: str) -> _Told:
@@ -212,6 +224,11 @@ class Driver:
             if opened >= 0:
                 os.close(opened)
         self._lock = self._opened = -1
+
+
+def temporary() -> str:
+    """The name of a new temporary."""
+    return f".part-{secrets.token_hex(8)}"
 
 
 def wait_for_lock(folder: str, opened: int, kind: int) -> bool:

@@ -14,8 +14,8 @@ import stat
 import warnings
 from typing import Iterable, Iterator, Optional
 
-from . import folder_driver
-from .errors import Busy, Damaged
+from . import calls, folder_driver
+from .errors import Busy
 from .folder_driver import Driver, is_named, leads_nowhere, wait_for_lock
 
 _TEMPORARY = re.compile(r"\.part-[0-9a-f]{16}")
@@ -65,18 +65,13 @@ def front_of(folder: str, name: str) -> tuple[bytes, int]:
 
 
 def read_part(folder: str, name: str) -> bytes:
-    """The bytes of a part.
+    """The bytes of the file of a part's name.
 
     Raises:
         FileNotFoundError: it is gone.
-        Damaged: they aren't those of its name.
     """
-    path = os.path.join(folder, name)
-    with open(path, "rb") as file:
-        data = file.read()
-    if part_name(data) != name:
-        raise Damaged(path)
-    return data
+    with open(os.path.join(folder, name), "rb") as file:
+        return file.read()
 
 
 def put(folder: str, data: bytes) -> str:
@@ -182,10 +177,10 @@ def _new_folder(above: str, last: str, folder: str) -> tuple[int, str]:
     raise Busy("no folder can be made", folder)
 
 
-def replace(folder: str, data: bytes, joined: Iterable[str]) -> Optional[int]:
-    """Puts a part in the place of those that were read to make it; how many of these were removed. It is written first; then, under the
-    exclusive lock of the folder, they are seen to be there, it is given its name and is seen to be on the disk, and they are removed, but
-    for the one that is the part itself. If one of them is gone, or the part itself, a pack or a forget was here: none is removed.
+def replace(folder: str, turn: calls.Turn, room: int) -> Optional[int]:
+    """Follows the turn of a pack or a forget, whose part has some such number of bytes; how many parts were removed. The part is written
+    first; then, under the exclusive lock of the folder, those that it was made of are seen to be there, it is given its name and is seen to be
+    on the disk, and they are removed. If one of them is gone, or the part itself, a pack or a forget was here: None, and none is removed.
 
     Raises:
         Busy: others have had the folder for ten seconds. Nothing is put or removed then.
@@ -193,17 +188,16 @@ def replace(folder: str, data: bytes, joined: Iterable[str]) -> Optional[int]:
         OSError: the part can't be written, or the file system has no such lock, and nothing is put; or the part or the folder can't be
             synced, and nothing is removed; or a part can't be removed.
     """
-    name = part_name(data)
-    others = [other for other in joined if other != name]
+    part = turn.part(room)
     with Driver(folder) as driver:
         try:
-            end = driver.follow(folder_driver.REPLACE, data, others)
+            end = driver.run(turn, memoryview(part) if isinstance(part, bytes) else part.view())
         except FileExistsError:  # a sweep took the temporary
             return None
         if end == folder_driver.UNSYNCED and driver.unsynced is not None:
             fault, path = driver.unsynced
             raise OSError(fault.errno, f"this could not be synced: {fault.strerror}", path)
-        return None if end == folder_driver.GONE else len(others)
+        return None if end == folder_driver.GONE else driver.removed
 
 
 def sweep(folder: str) -> None:

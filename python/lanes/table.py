@@ -164,6 +164,14 @@ class Table:
         table._asked()
         return table
 
+    @classmethod
+    def _of_parts(cls: Type[_Self], parts: calls.Parts) -> _Self:
+        """The table of what parts of a folder hold together."""
+        opened = parts.opened()
+        table = cls(opened.file(parts.length + _ROOM))
+        table._opened = opened
+        return table
+
     def to_bytes(self) -> bytes:
         """The canonical file."""
         return bytes(self._file)
@@ -466,7 +474,7 @@ class Table:
         """What queries are asked of. Two threads that ask first at the same time may both open it; one opening stays."""
         opened = self._opened
         if opened is None:
-            opened = self._opened = calls.Opened(self._file)
+            opened = self._opened = calls.Opened.of_file(self._file)
         return opened
 
     def _schema(self) -> Schema:

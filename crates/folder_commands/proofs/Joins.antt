@@ -71,7 +71,7 @@ among_last : (x : List ℕ) (xs ys : List (List ℕ)) → Among x ys → Among x
 among_last x [] ys among = among
 among_last x (y ∷ xs) ys among = inr (among_last x xs ys among)
 
-from_reverse : (x : List ℕ) (xs : List (List ℕ)) → Among x (reverse xs) → Among x xs
+pub from_reverse : (x : List ℕ) (xs : List (List ℕ)) → Among x (reverse xs) → Among x xs
 from_reverse x [] among = among
 from_reverse x (y ∷ xs) among =
     ⊎_elim (λ a. inr (from_reverse x xs a)) (λ e. ⊎_elim (λ is. inl is) (λ none. absurd none) e)
@@ -81,7 +81,7 @@ or_reverse : (x y : List ℕ) (xs : List (List ℕ)) → (Among x xs → Among x
 or_reverse x y xs onward (inl is) = among_last x (reverse xs) (y ∷ []) (inl is)
 or_reverse x y xs onward (inr among) = among_first x (reverse xs) (y ∷ []) (onward among)
 
-to_reverse : (x : List ℕ) (xs : List (List ℕ)) → Among x xs → Among x (reverse xs)
+pub to_reverse : (x : List ℕ) (xs : List (List ℕ)) → Among x xs → Among x (reverse xs)
 to_reverse x [] among = among
 to_reverse x (y ∷ xs) among = subst (λ (l : List (List ℕ)). Among x l) (sym (reverse-append (y ∷ []) xs)) (or_reverse x y xs (to_reverse x xs) among)
 

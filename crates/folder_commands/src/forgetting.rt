@@ -31,7 +31,7 @@ pub struct Forgot {
 }
 
 /// How much a forget drops of a store, which is let go; and the file of what is left, if that is anything.
-fn left_of(alloc: Global, held: Store) -> Result<(Forgotten, Vec<u8>), Refusal>
+pub fn left_of(alloc: Global, held: Store) -> Result<(Forgotten, Vec<u8>), Refusal>
     ensures { IfOk result (λ both. (left : Replica) × (forgetting held.replica ≡ Ok ((both.0.batches, both.0.rows), left)) × (not (both.0.batches == 0) ≡ true → (both.1.items ≡ file_of left) × (held_in (file_of left) ≡ Ok (as_held left)))) }
 {
     let mut store = held;

@@ -12,9 +12,9 @@ mod sweeping;
 mod taken;
 mod wanted;
 
-pub use forgetting::{Forgot, forget};
-pub use packing::pack;
+pub use forgetting::{Forgot, forget, left_of};
+pub use packing::{file_of, pack};
 pub use reading::{Read, read_folder, read_named};
-pub use replacing::Replaced;
+pub use replacing::{Replaced, names_for};
 pub use skimming::{Skimmed, skim_folder};
 pub use sweeping::sweep;

@@ -19,7 +19,7 @@ use std::alloc::Global;
 use table_model::{Counted, Refusal};
 
 /// The file of what a store holds, which is let go.
-fn file_of(alloc: Global, store: Store) -> Result<Vec<u8>, Refusal>
+pub fn file_of(alloc: Global, store: Store) -> Result<Vec<u8>, Refusal>
     ensures file { IfOk result (λ bytes. bytes.items ≡ file_of store.replica) }
     ensures read { IfOk result (λ bytes. held_in (file_of store.replica) ≡ Ok (as_held store.replica)) }
 {

@@ -27,7 +27,7 @@ pub struct Replaced {
 }
 
 /// The name of a part with these bytes, and the names of those that go once it has taken their place.
-fn names_for(
+pub fn names_for(
     alloc: Global,
     passed: &[String],
     names: &[String],

@@ -17,5 +17,6 @@ pub mod InputFaults
 pub mod InputLoads
 pub mod SaidAgain
 pub mod TurnHandleFields
+pub mod PartsHandleFields
 pub mod TurnEnds
 pub mod TurnSteps

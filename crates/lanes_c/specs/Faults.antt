@@ -13,6 +13,8 @@ use Rattle.partial_commands.specs.declared.partial_answer_error.PartialAnswerErr
 use Rattle.partial_commands.specs.declared.partial_answer_error.PartialAnswerError.TheVariants as errors
 use Rattle.csv_rows.specs.declared.error.CsvError.{CsvError}
 use Rattle.csv_rows.specs.declared.error.CsvError.TheVariants as csv
+use Rattle.folder_home.specs.declared.fault.PartFault.{PartFault}
+use Rattle.folder_home.specs.declared.fault.PartFault.TheVariants as parts
 use Rattle.folder_replay.specs.declared.replay.Fault.{Fault as ReplayFault}
 use Rattle.folder_replay.specs.declared.replay.Fault.TheVariants as replay
 use Rattle.live_columns.specs.declared.choice.Unchosen.{Unchosen}
@@ -122,6 +124,11 @@ abbrev pub told_of_expectation : ExpectationError → Fault
 told_of_expectation expectations.SchemaDiffers = faults.Refused refusals.SchemaDiffers
 told_of_expectation (expectations.Missing name) = faults.Missing name
 told_of_expectation (expectations.Unanswered e) = told_of_partial_answer e
+
+-- what C gets of a part that is at fault
+abbrev pub told_of_part : PartFault → Fault
+told_of_part parts.Damaged = faults.Damaged
+told_of_part (parts.Refused refusal) = told refusal
 
 -- what C gets of a turn at a folder that can't go on
 abbrev pub told_of_replay : ReplayFault → Fault

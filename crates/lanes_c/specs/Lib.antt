@@ -12,6 +12,8 @@ pub mod InputColumns
 pub mod Names
 pub mod Opened
 pub mod PartialAnswers
+pub mod PartsHandles
+pub mod PartsRead
 pub mod Queries
 pub mod Rooms
 pub mod Spreading

@@ -1,10 +1,11 @@
 //! Why a call gave nothing, as C gets it: a number and a place.
 ghost use Rattle.std.specs.Prelude.{◌≡◌};
-ghost use Rattle.lanes_c.specs.Faults.{number_of_fault, place_of, place_of_fault, in_names, nowhere, of_query, pair, told, told_of_choice, told_of_csv, told_of_expectation, told_of_partial_answer, told_of_partial_answers, told_of_replay};
+ghost use Rattle.lanes_c.specs.Faults.{number_of_fault, place_of, place_of_fault, in_names, nowhere, of_query, pair, told, told_of_choice, told_of_csv, told_of_expectation, told_of_part, told_of_partial_answer, told_of_partial_answers, told_of_replay};
 ghost use Rattle.lanes_c.specs.declared.fault.Fault.TheVariants.{Refused};
 ghost use Rattle.table_model.specs.declared.refusal.Refusal.TheVariants.{Memory};
 
 use csv_rows::CsvError;
+use folder_home::PartFault;
 use folder_replay::Fault as ReplayFault;
 use live_columns::Unchosen;
 use partial_answers::PartialAnswerFault;
@@ -141,6 +142,17 @@ impl From<ExpectationError> for Fault {
             ExpectationError::SchemaDiffers => Fault::Refused(Refusal::SchemaDiffers),
             ExpectationError::Missing(name) => Fault::Missing(name),
             ExpectationError::Unanswered(error) => Fault::from(error),
+        }
+    }
+}
+
+impl From<PartFault> for Fault {
+    ghost from_gives = { λ given fault. fault ≡ told_of_part given };
+
+    fn from(given: PartFault) -> Fault {
+        match given {
+            PartFault::Damaged => Fault::Damaged,
+            PartFault::Refused(refusal) => Fault::from(refusal),
         }
     }
 }

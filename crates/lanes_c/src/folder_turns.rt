@@ -10,6 +10,7 @@ ghost use Rattle.folder_replay.specs.declared.request.Answer.TheVariants as answ
 ghost use Rattle.lanes_c.specs.Calls.{Yields};
 ghost use Rattle.lanes_c.specs.FolderTurns.{Begins, DrivesOpen, Drives, EndsAs, EndsIn, Fits, GoesOn, HasEnded, HasTold, IsAbout, IsAsked, named, names_left, state_begun, task_of};
 ghost use Rattle.lanes_c.specs.Rooms.{IsFilled, Tells, given_by};
+ghost use Rattle.lanes_c.specs.Taking.{NoText};
 ghost use Rattle.lanes_c.specs.declared.fault.Fault.TheVariants.{Busy, Refused, System};
 ghost use Rattle.table_model.specs.declared.refusal.Refusal.TheVariants.{Memory};
 
@@ -68,8 +69,9 @@ fn copied(alloc: Global, bytes: &[u8]) -> Result<Vec<u8>, AllocError>
 }
 
 /// A text of these bytes.
-fn text(alloc: Global, bytes: &[u8]) -> Result<String, Fault>
-    ensures { IfOk result (λ text. string_bytes text ≡ bytes.now) }
+pub(crate) fn text(alloc: Global, bytes: &[u8]) -> Result<String, Fault>
+    ensures text { IfOk result (λ text. string_bytes text ≡ bytes.now) }
+    ensures fault { IfErr result (λ fault. NoText bytes.now fault ⊎ (fault ≡ Refused Memory)) }
 {
     let words = text_of(bytes)?;
     Ok(String::from_str(alloc, words)?)

@@ -1,5 +1,5 @@
 //! Handing bytes out into a room that a caller owns.
-ghost use Rattle.std.specs.Prelude.{◌≡◌};
+ghost use Rattle.std.specs.Prelude.{◌≡◌, Ok};
 ghost use Rattle.lanes_c.specs.Rooms.{filled, given_by, number_told, room_left, length_told, place_told};
 
 use crate::fault::{Fault, Place};
@@ -12,6 +12,19 @@ pub(crate) fn fill<T: Copy>(items: &[T], room: &mut [T])
         let (front, _) = room.split_at_mut(items.len());
         front.copy_from_slice(items);
     }
+}
+
+/// Tells a caller that a call gave these bytes.
+pub(crate) fn hand_over(bytes: &[u8], room: &mut [u8], length: &mut usize, place: &mut Place) -> u8
+    ensures number { result ≡ number_told (Ok bytes.now) }
+    ensures room { room.new ≡ room_left (Ok bytes.now) room.old }
+    ensures length { length.new ≡ length_told (Ok bytes.now) }
+    ensures place { place.new ≡ place_told (Ok bytes.now) }
+{
+    fill(bytes, room);
+    *length = bytes.len();
+    *place = Place::nowhere();
+    0
 }
 
 /// Tells a caller what a call gave: bytes, which are put into the room if they fit, with their length and 0; or a fault's number
@@ -28,12 +41,7 @@ pub(crate) fn hand_out(
     ensures place { place.new ≡ place_told (given_by given) }
 {
     match given {
-        Ok(bytes) => {
-            fill(bytes.as_slice(), room);
-            *length = bytes.len();
-            *place = Place::nowhere();
-            0
-        }
+        Ok(bytes) => hand_over(bytes.as_slice(), room, length, place),
         Err(fault) => {
             *length = 0;
             *place = fault.place();

@@ -1,0 +1,66 @@
+-- What is made of parts that were read may come in their place, after every history in which they were read.
+use Rattle.std.specs.Prelude.{◌≡◌, ℕ, List, [], ◌∷◌, ◌++◌, map, reverse, Some, Ok}
+use Rattle.std.proofs.Common.{refl, sym, ap, subst, ◌∙◌, inl, inr}
+use Rattle.std.proofs.lemmas.List.{reverse-append, map-append}
+use Rattle.folder_history.specs.Call.{Call}
+use Rattle.folder_history.specs.Disk.{Among}
+use Rattle.folder_history.specs.Parts.{IsNoPart}
+use Rattle.folder_replay.specs.Orders.{Matter, MayTake}
+use Rattle.folder_replay.specs.declared.order.Task.{Task}
+use Rattle.folder_replay.specs.declared.order.Task.TheVariants.{Replace}
+use Rattle.replica_store.specs.Replica.{Replica}
+use Rattle.replica_reading.specs.Held.{held_in}
+use Rattle.replica_commands.specs.Commands.{file_of, as_held}
+use Rattle.replica_commands.specs.Forgetting.{forgetting}
+use Rattle.folder_home.specs.Covers.{folder_parts}
+use Rattle.folder_home.specs.PartName.{part_name}
+use Rattle.folder_commands.specs.Joined.{IsJoinOf, AreRead}
+use Rattle.folder_commands.specs.Replacing.{AreCoveredBy}
+use Rattle.folder_commands.specs.Wanted.{is_wanted}
+use Rattle.folder_commands.proofs.Joins.{from_reverse, to_reverse}
+use Rattle.folder_commands.proofs.Replacings.{are_joined, pack_covered, forget_covered}
+use Rattle.read_parts.specs.Orders.{MayFollow, WereRead, matter_replacing, names_of}
+
+-- the names with one more
+pub name_more : (name bytes : List ℕ) (files names more : List (List ℕ)) → name ≡ part_name bytes → names ≡ names_of files → more ≡ names ++ name ∷ [] → more ≡ names_of (bytes ∷ files)
+name_more name bytes files names more named are is =
+    is ∙ (λ i. are i ++ (named i ∷ [])) ∙ sym (map-append part_name (reverse files) (bytes ∷ [])) ∙ ap (map part_name) (sym (reverse-append (bytes ∷ []) files))
+
+-- a name is that of a file
+of_name : (name : List ℕ) (files : List (List ℕ)) → Among name (map part_name files) → (file : List ℕ) × (name ≡ part_name file) × Among file files
+of_name name [] among = absurd among
+of_name name (file ∷ files) (inl is) = (file, is, inl refl)
+of_name name (file ∷ files) (inr among) = let more = of_name name files among in (more.0, more.1, inr more.2)
+
+-- what was read was joined
+pub are_read : (whole : Replica) (files : List (List ℕ)) (before : List Call) → IsJoinOf (Some whole) files → WereRead files before → AreRead [] (names_of files) whole before
+are_read whole files before (first, others, is, made) read = record {
+  first = first;
+  others = others;
+  made = made;
+  read = λ file among. read file (subst (λ (l : List (List ℕ)). Among file l) (sym is) (to_reverse file (first ∷ others) among));
+  each = λ name among wanted.
+      let one = of_name name (reverse files) among in
+      (one.0, one.1, from_reverse one.0 (first ∷ others) (subst (λ (l : List (List ℕ)). Among one.0 l) is (from_reverse one.0 files one.2)));
+}
+
+-- what covers them may come in their place
+may_replace : (temporary bytes : List ℕ) (names : List (List ℕ)) (before : List Call) → IsNoPart folder_parts temporary → AreCoveredBy [] names bytes before
+    → MayTake Replace (matter_replacing temporary names bytes) folder_parts before
+may_replace temporary bytes names before free covered = (refl, free, are_joined [] names bytes (part_name bytes) _ before refl refl covered)
+
+-- a pack may be followed
+pub packs : (whole : Replica) (files : List (List ℕ)) (temporary : List ℕ) → IsJoinOf (Some whole) files → held_in (file_of whole) ≡ Ok (as_held whole)
+    → MayFollow Replace (matter_replacing temporary (names_of files) (file_of whole)) files
+packs whole files temporary joined read before were free =
+    may_replace temporary (file_of whole) (names_of files) before free (pack_covered [] (names_of files) whole before (are_read whole files before joined were) read)
+
+-- and so may a forget
+pub forgets : (whole left : Replica) (dropped : ℕ × ℕ) (files : List (List ℕ)) (temporary : List ℕ) → IsJoinOf (Some whole) files → forgetting whole ≡ Ok (dropped, left) → held_in (file_of left) ≡ Ok (as_held left)
+    → MayFollow Replace (matter_replacing temporary (names_of files) (file_of left)) files
+forgets whole left dropped files temporary joined forgot read before were free =
+    may_replace temporary (file_of left) (names_of files) before free (forget_covered [] (names_of files) whole left dropped before (are_read whole files before joined were) forgot read)
+
+-- the same of an order, by its task and its matter
+pub follows : (task : Task) (matter made : Matter) (files : List (List ℕ)) → task ≡ Replace → matter ≡ made → MayFollow Replace made files → MayFollow task matter files
+follows task matter made files is same may = subst (λ (t : Task). MayFollow t matter files) (sym is) (subst (λ (m : Matter). MayFollow Replace m files) (sym same) may)
