@@ -1,9 +1,9 @@
-use Rattle.std.proofs.Common.{map, ℕ, List, sym, ap, subst, ⊎_elim, ◌∙◌}
+use Rattle.std.proofs.Common.{ℕ, List, sym, ap, subst, ⊎_elim, ◌∙◌}
 use Rattle.std.specs.String.{string_bytes}
 use Rattle.folder_protocol.specs.Causes.{HasCall}
 use Rattle.folder_protocol.specs.Sweeping.{Tries}
 use Rattle.folder_protocol.specs.Temporary.{is_temporary}
-use Rattle.folder_protocol.proofs.Causing.{follows_none, follows_more, has_later, has_before}
+use Rattle.folder_protocol.proofs.Causing.{follows_more, has_later, has_before}
 use Rattle.folder_protocol.proofs.Lines.{joins}
 use Rattle.folder_protocol.proofs.ReadLines.{among_more, among_all}
 use Rattle.folder_protocol.proofs.sweeping.sweep_each.Goals as goal
