@@ -19,6 +19,12 @@ follows_none h = ([], refl)
 pub follows_on : (before mid after : List Call) (call : Call) → Follows before mid → after ≡ call ∷ mid → Follows before after
 follows_on before mid after call so_far is = (call ∷ so_far.0, is ∙ ap (λ (l : List Call). call ∷ l) so_far.1)
 
+pub follows_more : (before mid after : List Call) → Follows before mid → Follows mid after → Follows before after
+follows_more before mid after first second = (
+  second.0 ++ first.0,
+  second.1 ∙ ap (λ (l : List Call). second.0 ++ l) first.1 ∙ sym (append_assoc second.0 first.0 before),
+)
+
 -- which calls were made is the same for all parts; this name is no part's
 abbrev pub parts_without : List ℕ → Parts
 parts_without temporary = record { name_of = λ b. 0 ∷ temporary; covers = λ b a. true }

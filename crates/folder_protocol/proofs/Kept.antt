@@ -1,13 +1,13 @@
 -- How parts come to be kept.
-use Rattle.std.specs.Prelude.{◌≡◌, ◌⊎◌, ℕ, Bool, true, false, List, [], ◌∷◌, ◌++◌, Some, None, Result, Ok, Err, OnOk, OnErr, if◌then◌else◌}
+use Rattle.std.specs.Prelude.{◌≡◌, ℕ, Bool, true, false, List, [], ◌∷◌, ◌++◌, Some, None, Result, Ok, Err, OnOk, OnErr, if◌then◌else◌}
 use Rattle.std.specs.Result.{is_ok}
 use Rattle.std.specs.Str.{bytes_eq}
-use Rattle.std.proofs.Common.{refl, sym, ap, subst, ◌∙◌, inl, inr, ⊎_elim}
+use Rattle.std.proofs.Common.{refl, sym, ap, subst, ◌∙◌, inl, inr}
 use Rattle.std.proofs.lemmas.Slice.Eq.{bytes_eq-Decides}
 use Rattle.folder_history.specs.Call.{Call, Read, Synced, Settled}
 use Rattle.folder_history.specs.Disk.{Among}
 use Rattle.folder_history.specs.Parts.{Parts}
-use Rattle.folder_history.specs.Turn.{Stage, Idle, Seen, Whole, synced, WasSynced, IsKept}
+use Rattle.folder_history.specs.Turn.{Idle, Seen, Whole, synced, WasSynced, IsKept}
 use Rattle.folder_protocol.specs.Causes.{FindsNone, Fails, HasCall}
 use Rattle.folder_protocol.proofs.Causing.{Follows, follows_none, follows_on, has_now, has_later, has_before}
 use Rattle.folder_protocol.specs.Keeping.{Finds, IsSyncedOrGone, IsKeptOrGone}

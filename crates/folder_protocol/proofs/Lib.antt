@@ -3,3 +3,4 @@ pub mod ReadLines
 pub mod Causing
 pub mod Kept
 pub mod TakeLines
+mod Temporaries

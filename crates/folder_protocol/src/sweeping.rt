@@ -1,7 +1,7 @@
 //! How temporaries that nobody holds any more are removed.
-ghost use Rattle.std.specs.Prelude.{◌≡◌, ◌∷◌, List, ℕ, Bool, true, false, map, OnOk, OnErr};
+ghost use Rattle.std.specs.Prelude.{◌≡◌, ◌∷◌, ◌++◌, List, ℕ, Bool, true, false, map, OnOk, OnErr};
 ghost use Rattle.std.specs.String.{string_bytes};
-ghost use Rattle.folder_history.specs.Call.{Removed};
+ghost use Rattle.folder_history.specs.Call.{Call, Removed};
 ghost use Rattle.folder_history.specs.Disk.{Among};
 ghost use Rattle.folder_history.specs.Parts.{Parts, IsNoPart};
 ghost use Rattle.folder_history.specs.Turn.{Gave, listing_of};
@@ -47,10 +47,19 @@ fn sweep_each<F: Sweeps>(folder: &mut F, names: &[String])
 {
     let mut at = 0;
     while at < names.len() {
-        let name = names[at].as_str();
-        if is_temporary(name) {
-            let _ = folder.sweep(name);
-        }
+        sweep_one(folder, names[at].as_str());
         at += 1;
+    }
+}
+
+/// Removes a name if it is a temporary's, and no process holds that.
+fn sweep_one<F: Sweeps>(folder: &mut F, name: &str)
+    ensures in_turn { (parts : Parts) → ((other : List ℕ) → is_temporary other ≡ true → IsNoPart parts other) → GoesInTurn parts (F.history folder.old) (F.history folder.new) }
+    ensures follows { (calls : List Call) × (F.history folder.new ≡ calls ++ F.history folder.old) }
+    ensures listing { (listed : List (List ℕ)) → listing_of (F.history folder.old) ≡ Gave listed → listing_of (F.history folder.new) ≡ Gave listed }
+    ensures swept { is_temporary name.now ≡ true → HasCall (Tries name.now) (F.history folder.old) (F.history folder.new) }
+{
+    if is_temporary(name) {
+        let _ = folder.sweep(name);
     }
 }

@@ -16,11 +16,18 @@ fn is_digit(byte: u8) -> bool
     (48 <= byte && byte <= 57) || (97 <= byte && byte <= 102)
 }
 
+/// Whether all bytes are such digits.
+fn has_only_digits(text: &[u8]) -> bool
+    ensures { result ≡ list_all is_digit text.now }
+{
+    text.iter().all(|byte| is_digit(*byte))
+}
+
 /// Whether these are 16 digits of `0` to `9` and `a` to `f`.
 pub fn are_digits(text: &[u8]) -> bool
     ensures { result ≡ are_digits text.now }
 {
-    text.len() == DIGITS && text.iter().all(|byte| is_digit(*byte))
+    text.len() == DIGITS && has_only_digits(text)
 }
 
 /// Whether a name is that of a temporary: `.part-` and 16 digits of `0` to `9` and `a` to `f`.

@@ -2,7 +2,7 @@
 use Rattle.std.proofs.Common.{◌≡◌, refl, sym, ◌∙◌, ap, subst, ℕ, ◌+◌, ◌<◌, ◌≤◌, Bool, true, false, leb, if◌then◌else◌, List, [], ◌∷◌, ◌++◌, length, take, map, get_or, Option, Some, MatchOption, option_map}
 use Rattle.std.specs.List.{AllZip}
 use Rattle.std.proofs.lemmas.List.{append_assoc, append-nil, take_more, take_all}
-use Rattle.folder_history.specs.Call.{Call, Made, Wrote, Synced, Linked, Removed, Settled, Locked, Unlocked, Began, Listed, Read}
+use Rattle.folder_history.specs.Call.{Call, Made, Wrote, Synced, Linked, Removed, Settled, Locked, Unlocked, Began, Listed, Read, Looked}
 use Rattle.folder_history.specs.Parts.{Parts}
 use Rattle.folder_history.specs.Turn.{InTurn, AllInTurn}
 use Rattle.folder_replay.specs.declared.request.Request.{Request}
@@ -70,6 +70,7 @@ module _ (parts : Parts) where
   whatever Began h answer all = all
   whatever (Listed names) h answer all = all
   whatever (Read name ok) h answer all = all
+  whatever (Looked name ok) h answer all = all
 
   -- what is asked for is in turn
   pub asked_in_turn : (whole : List ℕ) (request : Request) (h : List Call) → AllInTurn parts (answered (call_asked whole request) answers.Failed ++ h) → InTurn parts h (call_asked whole request)

@@ -347,9 +347,9 @@ impl<'r, R: Files<File = File> + Clock + AllocGlobal + Clone + Drop> Looks for S
 
     fn find(&mut self, name: &str) -> io::Result<Found> {
         self.begin();
-        let answer = found_in(self.rt, self.path.as_str(), name);
-        self.calls.looked(name, answer.is_ok());
-        answer
+        let found = found_in(self.rt, self.path.as_str(), name);
+        self.calls.looked(name, found.is_ok());
+        found
     }
 
     fn open(&mut self, name: &str) -> io::Result<Option<Opened<File>>> {

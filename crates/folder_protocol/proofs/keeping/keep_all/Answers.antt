@@ -1,5 +1,5 @@
 -- One after another is read and synced, and then the folder is.
-use Rattle.std.proofs.Common.{refl, sym, ◌∙◌, ⊎_elim, subst, arith, map}
+use Rattle.std.proofs.Common.{sym, ◌∙◌, ⊎_elim, subst, arith, map}
 use Rattle.folder_protocol.specs.Causes.{Fails}
 use Rattle.folder_protocol.specs.Keeping.{IsSyncedOrGone}
 use Rattle.folder_protocol.proofs.Causing.{follows_none, has_later, on_err}

@@ -1,5 +1,5 @@
 -- A read, and a sync of what was read.
-use Rattle.std.proofs.Common.{Some, None, refl}
+use Rattle.std.proofs.Common.{refl}
 use Rattle.folder_protocol.specs.Causes.{Fails}
 use Rattle.folder_protocol.proofs.Causing.{follows_none, follows_on, has_now, on_err, sync_fails}
 use Rattle.folder_protocol.proofs.Kept.{synced_now, gone_now}
