@@ -1,8 +1,8 @@
 -- Those of some names that pass a test, name by name.
-use Rattle.std.specs.Prelude.{◌≡◌, ℕ, ◌+◌, ◌<◌, Bool, true, false, cond, List, [], ◌∷◌, ◌++◌, filter, length, map, take}
+use Rattle.std.specs.Prelude.{◌≡◌, ℕ, ◌+◌, ◌<◌, Bool, true, false, cond, List, [], ◌∷◌, ◌++◌, filter, length, map, take, drop}
 use Rattle.std.proofs.Common.{sym, ap, ◌∙◌, arith, get_or}
-use Rattle.std.proofs.lemmas.List.{append-nil, get_or-map, length-map, map-append}
-use Rattle.std.proofs.lemmas.List.Elements.{filter_more}
+use Rattle.std.proofs.lemmas.List.{append-nil, get_or-map, length-map, map-append, take-append-drop}
+use Rattle.std.proofs.lemmas.List.Elements.{filter_more, filter-append}
 
 module _ {X : Type 0} (f : X → List ℕ) (p : List ℕ → Bool) (names : List X) (i : ℕ) (x : X) (below : i < length names) (is : x ≡ get_or names i x) where
   at : get_or (map f names) i (f x) ≡ f x
@@ -14,12 +14,22 @@ module _ {X : Type 0} (f : X → List ℕ) (p : List ℕ → Bool) (names : List
       ∙ ap (λ (z : List ℕ). filter p (take i (map f names)) ++ cond (p z) (z ∷ []) []) at
 
   -- one that does not pass
+  pub passed_over : p (f x) ≡ false → filter p (take (i + 1) (map f names)) ≡ filter p (take i (map f names))
+  passed_over fails = step ∙ ap (λ (b : Bool). filter p (take i (map f names)) ++ cond b (f x ∷ []) []) fails ∙ append-nil (filter p (take i (map f names)))
+
   pub stays : (gone next : List X) → next ≡ gone → map f gone ≡ filter p (take i (map f names)) → p (f x) ≡ false → map f next ≡ filter p (take (i + 1) (map f names))
-  stays gone next same so fails =
-      ap (map f) same ∙ so ∙ sym (append-nil (filter p (take i (map f names)))) ∙ ap (λ (b : Bool). filter p (take i (map f names)) ++ cond b (f x ∷ []) []) (sym fails) ∙ sym step
+  stays gone next same so fails = ap (map f) same ∙ so ∙ sym (passed_over fails)
 
   -- one that does
+  pub kept : p (f x) ≡ true → filter p (take (i + 1) (map f names)) ≡ filter p (take i (map f names)) ++ f x ∷ []
+  kept passes = step ∙ ap (λ (b : Bool). filter p (take i (map f names)) ++ cond b (f x ∷ []) []) passes
+
   pub grows : (gone next : List X) (y : X) → next ≡ gone ++ y ∷ [] → f y ≡ f x → map f gone ≡ filter p (take i (map f names)) → p (f x) ≡ true → map f next ≡ filter p (take (i + 1) (map f names))
   grows gone next y same text so passes =
-      ap (map f) same ∙ map-append f gone (y ∷ []) ∙ (λ j. so j ++ (text j ∷ []))
-      ∙ ap (λ (b : Bool). filter p (take i (map f names)) ++ cond b (f x ∷ []) []) (sym passes) ∙ sym step
+      ap (map f) same ∙ map-append f gone (y ∷ []) ∙ (λ j. so j ++ (text j ∷ [])) ∙ sym (kept passes)
+
+  -- and those after it
+  pub kept_first : p (f x) ≡ true → filter p (map f names) ≡ (filter p (take i (map f names)) ++ f x ∷ []) ++ filter p (drop (i + 1) (map f names))
+  kept_first passes =
+      ap (filter p) (sym (take-append-drop (i + 1) (map f names))) ∙ filter-append p (take (i + 1) (map f names)) (drop (i + 1) (map f names))
+      ∙ ap (λ (l : List (List ℕ)). l ++ filter p (drop (i + 1) (map f names))) (kept passes)

@@ -1,4 +1,5 @@
 pub mod Joined
 pub mod Wanted
-pub mod Skims
+pub mod ReadParts
 pub mod Replacing
+pub mod Skims

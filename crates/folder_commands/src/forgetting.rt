@@ -3,6 +3,7 @@ ghost use Rattle.std.specs.Prelude.{◌≡◌, ◌==◌, not, true, Ok, None, Li
 ghost use Rattle.folder_history.specs.Parts.{IsNoPart};
 ghost use Rattle.folder_protocol.specs.Goes.{GoesInTurn};
 ghost use Rattle.folder_protocol.specs.Taking.{UntakenCause};
+ghost use Rattle.folder_protocol.specs.Temporary.{is_temporary};
 ghost use Rattle.replica_store.specs.Replica.{Replica};
 ghost use Rattle.replica_reading.specs.Held.{held_in};
 ghost use Rattle.replica_commands.specs.Commands.{file_of, as_held};
@@ -53,6 +54,8 @@ pub fn forget<F: Folder>(
 ) -> Result<Option<Forgot>, Untaken<PartRefusal>>
     // Each call is in turn, whatever the folder answers.
     ensures in_turn { IsNoPart folder_parts temporary.now → GoesInTurn folder_parts (F.history folder.old) (F.history folder.new) }
+    // So it is with the name of a temporary, which is no part's.
+    ensures in_turn_named { is_temporary temporary.now ≡ true → GoesInTurn folder_parts (F.history folder.old) (F.history folder.new) }
     // What is put is what a forget leaves of the parts that were read, and these are removed.
     ensures forgot { IfOk result (λ answer. IfSome answer (λ f. IsForgot (map string_bytes passed.now) (map string_bytes f.names.items) (f.dropped.batches, f.dropped.rows) (option_map (λ done. (string_bytes done.name, map string_bytes done.gone.items, done.outcome)) f.replaced) (F.history folder.old) (F.history folder.new))) }
     // Its names are those that a listing gave.

@@ -1,8 +1,9 @@
 //! A pack: parts are read and joined, and their join is put in their place.
-ghost use Rattle.std.specs.Prelude.{◌≡◌, [], Ok, None, map, string_bytes, IfOk, IfErr, IfSome};
+ghost use Rattle.std.specs.Prelude.{◌≡◌, [], true, Ok, None, map, string_bytes, IfOk, IfErr, IfSome};
 ghost use Rattle.folder_history.specs.Parts.{IsNoPart};
 ghost use Rattle.folder_protocol.specs.Goes.{GoesInTurn};
 ghost use Rattle.folder_protocol.specs.Taking.{UntakenCause};
+ghost use Rattle.folder_protocol.specs.Temporary.{is_temporary};
 ghost use Rattle.replica_reading.specs.Held.{held_in};
 ghost use Rattle.replica_commands.specs.Commands.{file_of, as_held};
 ghost use Rattle.folder_home.specs.Covers.{folder_parts};
@@ -40,6 +41,8 @@ pub fn pack<F: Folder>(
 ) -> Result<Option<Replaced>, Untaken<PartRefusal>>
     // Each call is in turn, whatever the folder answers.
     ensures in_turn { IsNoPart folder_parts temporary.now → GoesInTurn folder_parts (F.history folder.old) (F.history folder.new) }
+    // So it is with the name of a temporary, which is no part's.
+    ensures in_turn_named { is_temporary temporary.now ≡ true → GoesInTurn folder_parts (F.history folder.old) (F.history folder.new) }
     // What is put is what the parts hold that were read, and these are removed.
     ensures packed { IfOk result (λ answer. IfSome answer (λ done. Packs (map string_bytes names.now) (string_bytes done.name) (map string_bytes done.gone.items) done.outcome (F.history folder.old) (F.history folder.new))) }
     // None if no name is a part's.

@@ -6,7 +6,8 @@ ghost use Rattle.folder_protocol.specs.Taking.{UntakenCause};
 ghost use Rattle.folder_home.specs.Covers.{folder_parts};
 ghost use Rattle.folder_home.specs.PartReads.{IsListed, is_refusal_of_part};
 ghost use Rattle.folder_commands.specs.Joined.{AreUnwanted, WereGiven};
-ghost use Rattle.folder_commands.specs.Skims.{IfRefused, AreSkimmed, IsSkimRefused, SkimsMore, SkimsOne, AreRead, StopsAt};
+ghost use Rattle.folder_commands.specs.ReadParts.{IfRefused, ReadsOne, AreReadSoFar, StopsReading};
+ghost use Rattle.folder_commands.specs.Skims.{AreSkimmed, IsSkimRefused, IsSkimOf, SkimsMore, SkimsRead};
 ghost use Rattle.folder_commands.specs.Wanted.{is_wanted};
 
 use crate::reading::refused;
@@ -52,8 +53,8 @@ fn skim_one<F: Folder>(
 ) -> Result<Skim, Untaken<PartRefusal>>
     ensures in_turn { GoesInTurn folder_parts (F.history folder.old) (F.history folder.new) }
     ensures listing { listing_of (F.history folder.new) ≡ listing_of (F.history folder.old) }
-    ensures one { IfOk result (λ next. SkimsOne had (Ok next) names.first names.count name.now (F.history folder.old) (F.history folder.new)) }
-    ensures refused { IfErr result (λ fault. IfRefused fault (λ refusal. (refusal.part ≡ place) × SkimsOne had (Err refusal.fault) names.first names.count name.now (F.history folder.old) (F.history folder.new) × IsListed is_refusal_of_part refusal.fault)) }
+    ensures one { IfOk result (λ next. ReadsOne name.now (SkimsMore had (Ok next) names.first names.count) (F.history folder.old) (F.history folder.new)) }
+    ensures refused { IfErr result (λ fault. IfRefused fault (λ refusal. (refusal.part ≡ place) × ReadsOne name.now (SkimsMore had (Err refusal.fault) names.first names.count) (F.history folder.old) (F.history folder.new) × IsListed is_refusal_of_part refusal.fault)) }
     ensures cause { IfErr result (λ fault. UntakenCause fault (F.history folder.old) (F.history folder.new)) }
 {
     match folder.read(alloc, name) {
@@ -76,8 +77,8 @@ fn skim_each<F: Folder>(
 ) -> Result<Option<Skim>, Untaken<PartRefusal>>
     ensures in_turn { GoesInTurn folder_parts (F.history folder.old) (F.history folder.new) }
     ensures listing { listing_of (F.history folder.new) ≡ listing_of (F.history folder.old) }
-    ensures read { IfOk result (λ answer. (many : ℕ) × AreRead answer many names.first names.count (filter (is_wanted (map string_bytes passed.now)) (map string_bytes listed.now)) (F.history folder.old) (F.history folder.new)) }
-    ensures refused { IfErr result (λ fault. IfRefused fault (λ refusal. StopsAt refusal (filter (is_wanted (map string_bytes passed.now)) (map string_bytes listed.now)) names.first names.count (F.history folder.old) (F.history folder.new))) }
+    ensures read { IfOk result (λ answer. (many : ℕ) × AreReadSoFar (IsSkimOf answer names.first names.count) many (filter (is_wanted (map string_bytes passed.now)) (map string_bytes listed.now)) (F.history folder.old) (F.history folder.new)) }
+    ensures refused { IfErr result (λ fault. IfRefused fault (λ refusal. StopsReading (SkimsRead (Err refusal.fault) names.first names.count) refusal (filter (is_wanted (map string_bytes passed.now)) (map string_bytes listed.now)) (F.history folder.old) (F.history folder.new) × IsListed is_refusal_of_part refusal.fault)) }
     ensures cause { IfErr result (λ fault. UntakenCause fault (F.history folder.old) (F.history folder.new)) }
 {
     let mut skim = None;

@@ -32,7 +32,7 @@ whole_more : (parts : List PartForm) (part : PartForm) → AreWhole parts → Is
 whole_more [] part all one = (one, tt)
 whole_more (first ∷ parts) part all one = (all.0, whole_more parts part all.1 one)
 
-bytes_more : (parts : List PartForm) (part : PartForm) → bytes_of (parts ++ part ∷ []) ≡ bytes_of parts ++ part.bytes ∷ []
+pub bytes_more : (parts : List PartForm) (part : PartForm) → bytes_of (parts ++ part ∷ []) ≡ bytes_of parts ++ part.bytes ∷ []
 bytes_more [] part = refl
 bytes_more (first ∷ parts) part = ap (λ (rest : List (List ℕ)). first.bytes ∷ rest) (bytes_more parts part)
 

@@ -1,4 +1,4 @@
--- A part's name is one that parts have, so what has another name is no part.
+-- A part's name is one that parts have, so what has another name is no part. It begins with a digit.
 use Rattle.std.specs.Prelude.{◌≡◌, ℕ, zero, suc, ◌+◌, ◌*◌, ◌/◌, ◌%◌, ◌^◌, ◌<◌, ◌≤◌, Bool, true, false, ◌&&◌, ◌==◌, nat_le, List, [], ◌∷◌, ◌++◌, length, take, drop, slice_index, codes}
 use Rattle.std.proofs.Common.{refl, ap, sym, ◌∙◌, arith, length-append}
 use Rattle.std.proofs.Math.Seq.{take-append_seam, drop-append_seam}
@@ -99,3 +99,19 @@ names_are bytes =
 
 pub no_part : (name : List ℕ) → is_part_name name ≡ false → IsNoPart folder_parts name
 no_part name is bytes same = let both : true ≡ false = sym (names_are bytes) ∙ ap is_part_name (sym same) ∙ is in cc
+
+-- ---- how it begins
+
+begins : (first : ℕ) (rest : List ℕ) → is_part_name (first ∷ rest) ≡ true → is_digit first ≡ true
+unfolding is_part_name
+begins first rest named =
+    let name : List ℕ = first ∷ rest in
+    let both = and_parts (length name == 38) (list_all is_digit (take 32 name) && same_text (drop 32 name) (codes ".lanes")) named in
+    let digits = and_parts (list_all is_digit (take 32 name)) (same_text (drop 32 name) (codes ".lanes")) both.1 in
+    (and_parts (is_digit first) (list_all is_digit (take 31 rest)) digits.0).0
+
+-- what begins otherwise than with a digit is no part's name
+pub begins_otherwise : (first : ℕ) (rest : List ℕ) → is_digit first ≡ false → IsNoPart folder_parts (first ∷ rest)
+begins_otherwise first rest none bytes same =
+    let named : is_part_name (first ∷ rest) ≡ true = ap is_part_name same ∙ names_are bytes in
+    let both : true ≡ false = sym (begins first rest named) ∙ none in cc

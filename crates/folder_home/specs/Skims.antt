@@ -48,11 +48,6 @@ abbrev pub SkimsPart : {X : Type 0} → (X → Replica) → (X → ℕ) → Resu
 SkimsPart view batches (Ok x) first count whole = IsEnough first count (view x) (batches x) whole
 SkimsPart view batches (Err fault) first count whole = IsUnreadPart fault
 
--- what came of several such parts
-abbrev pub SkimsAll : {X : Type 0} → (X → Replica) → (X → ℕ) → Result X PartRefusal → BatchName → ℕ → Replica → Type 0
-SkimsAll view batches (Ok x) first count whole = IsEnough first count (view x) (batches x) whole
-SkimsAll view batches (Err refusal) first count whole = IsUnreadPart refusal.fault
-
 -- What came of parts that are whole and hold a replica, for loads of a number of batches under consecutive names: a replica that
 -- answers each such load as all parts do, unless the batches that were counted and those of the load are too many together. Refused is
 -- a part that was not read, or memory ran out.

@@ -10,6 +10,7 @@ use Rattle.folder_home.specs.Covers.{folder_parts}
 use Rattle.folder_commands.specs.Joined.{IsReadAs}
 use Rattle.folder_commands.specs.Replacing.{LeavesForgotten}
 use Rattle.folder_commands.proofs.Commands.{follows, forget_covers, forgets_none, forgets_some, is_some, were_given, unwanted}
+use Rattle.folder_commands.proofs.Temporaries.{no_temporary}
 use Rattle.folder_commands.proofs.forgetting.forget.Goals as goal
 
 pub returns-then-dropped-eq0-clause-forgot : goal.returns-then-dropped-eq0-clause-forgot
@@ -89,3 +90,9 @@ pub returns-in-Err-replace_read-clause-cause : goal.returns-in-Err-replace_read-
 returns-in-Err-replace_read-clause-cause g c =
     let lists = c.read_folder.ensures.in_turn in
     untaken_later c.in-Err-replace_read.fault _ _ _ (lists.0, lists.1) c.in-Err-replace_read.ensures.cause
+
+pub returns-in-Ok-replace_read-clause-in_turn_named : goal.returns-in-Ok-replace_read-clause-in_turn_named
+returns-in-Ok-replace_read-clause-in_turn_named g c = λ is. returns-in-Ok-replace_read-clause-in_turn g c (no_temporary c.args.temporary.now is)
+
+pub returns-in-Err-replace_read-clause-in_turn_named : goal.returns-in-Err-replace_read-clause-in_turn_named
+returns-in-Err-replace_read-clause-in_turn_named g c = λ is. returns-in-Err-replace_read-clause-in_turn g c (no_temporary c.args.temporary.now is)

@@ -6,6 +6,7 @@ use Rattle.folder_protocol.proofs.TakeLines.{untaken_later}
 use Rattle.replica_store.specs.declared.store.Store.{Store}
 use Rattle.folder_home.specs.Covers.{folder_parts}
 use Rattle.folder_commands.proofs.Commands.{pack_covers, packs}
+use Rattle.folder_commands.proofs.Temporaries.{no_temporary}
 use Rattle.folder_commands.proofs.packing.pack.Goals as goal
 
 pub returns-in-Ok-replace_read-clause-in_turn : goal.returns-in-Ok-replace_read-clause-in_turn
@@ -38,3 +39,9 @@ pub returns-clause-cause : goal.returns-clause-cause
 returns-clause-cause g c =
     let lists = c.read_named.ensures.in_turn in
     untaken_later c.in-Err-replace_read.fault _ _ _ (lists.0, lists.1) c.in-Err-replace_read.ensures.cause
+
+pub returns-in-Ok-replace_read-clause-in_turn_named : goal.returns-in-Ok-replace_read-clause-in_turn_named
+returns-in-Ok-replace_read-clause-in_turn_named g c = λ is. returns-in-Ok-replace_read-clause-in_turn g c (no_temporary c.args.temporary.now is)
+
+pub returns-clause-in_turn_named : goal.returns-clause-in_turn_named
+returns-clause-in_turn_named g c = λ is. returns-clause-in_turn g c (no_temporary c.args.temporary.now is)

@@ -1,8 +1,8 @@
 -- What was read of one part is all there is.
 use Rattle.folder_home.proofs.EnoughOfParts.{same_enough}
-use Rattle.folder_home.proofs.skimming.Skim.of_part.Goals as goal
+use Rattle.folder_home.proofs.skimming.Skim.new.Goals as goal
 
 pub returns-clause-skimmed : goal.returns-clause-skimmed
 returns-clause-skimmed c = λ r whole held.
-    same_enough c.args.names.first c.args.names.count c.in_ok-part.part.store.replica c.in_ok-skim.skim.joined.replica r c.in_ok-part.part.batches c.in_ok-skim.skim.batches
+    same_enough c.args.names.first c.args.names.count c.in_ok-part.part.store.replica c.in_ok-skim.skim.0 r c.in_ok-part.part.batches c.in_ok-skim.skim.1
     (c.in_ok-part.ensures.skimmed r whole held) c.in_ok-skim.ensures.value c.in_ok-skim.ensures.count

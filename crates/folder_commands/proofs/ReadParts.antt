@@ -1,0 +1,92 @@
+-- The parts of a folder are read one after another.
+use Rattle.std.specs.Prelude.{◌≡◌, ◌⊎◌, ℕ, suc, ◌+◌, List, [], ◌∷◌, ◌++◌, length, map as each, Some}
+use Rattle.std.proofs.Common.{refl, sym, ap, subst, ◌∙◌, arith, inl, inr, ⊎_elim, length-append}
+use Rattle.std.proofs.lemmas.List.{map-append, length-map}
+use Rattle.folder_history.specs.Call.{Call, Read}
+use Rattle.folder_history.specs.Disk.{Among}
+use Rattle.folder_history.specs.Turn.{HasReadSince}
+use Rattle.folder_protocol.specs.Causes.{HasCall}
+use Rattle.folder_protocol.specs.Keeping.{Finds}
+use Rattle.folder_protocol.proofs.Causing.{Follows, has_now, has_later, has_before}
+use Rattle.folder_home.specs.Covers.{folder_parts}
+use Rattle.folder_home.specs.Parts.{PartForm, IsWhole}
+use Rattle.folder_home.specs.declared.fault.PartRefusal.{PartRefusal}
+use Rattle.folder_commands.specs.ReadParts.{AreFound, AreReadSoFar, ReadsOne, StopsReading, names_of}
+
+-- ---- one more
+
+among_end : (part : PartForm) (parts : List PartForm) (last : PartForm) → Among part (parts ++ last ∷ []) → Among part parts ⊎ (part ≡ last)
+among_end part [] last among = ⊎_elim (λ is. inr is) (λ none. absurd none) among
+among_end part (next ∷ parts) last (inl is) = inl (inl is)
+among_end part (next ∷ parts) last (inr among) = ⊎_elim (λ a. inl (inr a)) (λ is. inr is) (among_end part parts last among)
+
+names_more : (parts : List PartForm) (name bytes : List ℕ) (names : List (List ℕ)) → names_of parts ≡ names → names_of (parts ++ record { name = name; bytes = bytes } ∷ []) ≡ names ++ name ∷ []
+names_more parts name bytes names is = map-append (λ (part : PartForm). part.name) parts (record { name = name; bytes = bytes } ∷ []) ∙ ap (λ (l : List (List ℕ)). l ++ name ∷ []) is
+
+count_more : (parts : List PartForm) (part : PartForm) (many : ℕ) → length parts ≡ many → length (parts ++ part ∷ []) ≡ many + 1
+count_more parts part many is = length-append parts (part ∷ []) ∙ ap (λ (n : ℕ). n + 1) is
+
+-- none was read yet
+pub none_read : (P : List PartForm → Type 0) (h : List Call) → P [] → AreReadSoFar P 0 [] h h
+none_read P h so = record {
+  parts = [];
+  found = λ part among. absurd among;
+  since = λ part among. absurd among;
+  named = refl;
+  counted = refl;
+  so = so;
+}
+
+-- what is so of the parts with one more
+abbrev pub More : (List PartForm → Type 0) → (List PartForm → Type 0) → PartForm → Type 0
+More P Q part = (parts : List PartForm) → P parts → Q (parts ++ part ∷ [])
+
+module _ (P Q : List PartForm → Type 0) (many : ℕ) (names : List (List ℕ)) (name : List ℕ) (before mid after : List Call) (read : AreReadSoFar P many names before mid) (first : Follows before mid) (one : ReadsOne name (More P Q) mid after) where
+  last : PartForm
+  last = record { name = name; bytes = one.0 }
+
+  parts : List PartForm
+  parts = read.parts ++ last ∷ []
+
+  found : AreFound parts before after
+  found part among =
+      ⊎_elim
+      (λ a. has_before (Finds part.name part.bytes) before mid after (Read name (Some (Some one.0)) ∷ [], one.1) (read.found part a))
+      (λ is. subst (λ (p : PartForm). HasCall (Finds p.name p.bytes) before after) (sym is) (has_later (Finds name one.0) before mid after first (has_now (Finds name one.0) mid after (Read name (Some (Some one.0))) one.1 (refl, refl))))
+      (among_end part read.parts last among)
+
+  since : (part : PartForm) → Among part parts → IsWhole part → HasReadSince folder_parts part.bytes after
+  since part among whole =
+      subst (λ (l : List Call). HasReadSince folder_parts part.bytes l) (sym one.1)
+      (⊎_elim (λ a. inr (read.since part a whole)) (λ is. inl (ap (λ (p : PartForm). p.bytes) (sym is), ap (λ (p : PartForm). p.name) (sym is) ∙ whole)) (among_end part read.parts last among))
+
+  pub read_more : AreReadSoFar Q (many + 1) (names ++ name ∷ []) before after
+  read_more = record {
+    parts = parts;
+    found = found;
+    since = since;
+    named = names_more read.parts name one.0 names read.named;
+    counted = count_more read.parts last many read.counted;
+    so = one.2 read.parts read.so;
+  }
+
+  pub stops_reading : (refusal : PartRefusal) (wanted rest : List (List ℕ)) → refusal.part ≡ many → wanted ≡ (names ++ name ∷ []) ++ rest → StopsReading Q refusal wanted before after
+  stops_reading refusal wanted rest place split =
+      let long = count_more read.parts last many read.counted in
+      record {
+        parts = parts;
+        rest = rest;
+        found = found;
+        named = split ∙ ap (λ (l : List (List ℕ)). l ++ rest) (sym (names_more read.parts name one.0 names read.named));
+        counted = omega (arith, long, place);
+        so = one.2 read.parts read.so;
+      }
+
+-- there are as many names as parts
+pub count_names : (parts : List PartForm) (many : ℕ) → length parts ≡ many → length (names_of parts) ≡ many
+count_names parts many is = length-map parts (λ (part : PartForm). part.name) ∙ is
+
+-- ---- after other calls
+
+pub found_later : (parts : List PartForm) (before mid after : List Call) → Follows before mid → AreFound parts mid after → AreFound parts before after
+found_later parts before mid after first found part among = has_later (Finds part.name part.bytes) before mid after first (found part among)

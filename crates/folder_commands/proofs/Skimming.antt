@@ -1,0 +1,150 @@
+-- The parts of a folder are skimmed one after another, as they are read.
+use Rattle.std.specs.Prelude.{◌≡◌, ℕ, suc, ◌+◌, ◌≤◌, Bool, true, false, cond, List, [], ◌∷◌, ◌++◌, filter, length, Option, Some, None, Result, Ok, Err}
+use Rattle.std.proofs.Common.{refl, sym, ap, subst, ◌∙◌, arith, inl, inr, ⊎_elim, append_assoc}
+use Rattle.table_model.specs.declared.names.BatchName.{BatchName}
+use Rattle.table_model.specs.declared.refusal.Refusal.TheVariants.{Memory}
+use Rattle.folder_history.specs.Call.{Call}
+use Rattle.folder_history.specs.Disk.{Among}
+use Rattle.folder_history.specs.Turn.{Gave, listing_of}
+use Rattle.folder_protocol.proofs.Causing.{Follows}
+use Rattle.replica_store.specs.Replica.{Replica, batch_limit, merged}
+use Rattle.replica_reading.specs.Held.{held_in}
+use Rattle.folder_home.specs.PartReads.{IsListed, is_refusal_of_part}
+use Rattle.folder_home.specs.Parts.{PartForm, IsWhole}
+use Rattle.folder_home.specs.Skims.{AnswersLoads, IsEnough, SkimsPart}
+use Rattle.folder_home.specs.declared.fault.PartFault.{PartFault}
+use Rattle.folder_home.specs.declared.fault.PartFault.TheVariants.{Refused}
+use Rattle.folder_home.specs.declared.fault.PartRefusal.{PartRefusal}
+use Rattle.folder_home.proofs.SkimmedSoFar.{opens_one, opens_more}
+use Rattle.folder_commands.specs.Joined.{AreUnwanted, WereGiven}
+use Rattle.folder_commands.specs.ReadParts.{AreFound, AreReadSoFar, StopsReading, names_of}
+use Rattle.folder_commands.specs.Skims.{AreSkimmed, IsSkimOf, IsSkimRefused, SkimsMore, SkimsRead}
+use Rattle.folder_commands.specs.Wanted.{is_wanted}
+use Rattle.folder_commands.proofs.ReadParts.{count_names, found_later}
+
+-- ---- one part after another
+
+-- how a part is skimmed, where all of them hold a replica
+abbrev Skims : Result (Replica × ℕ) PartFault → BatchName → ℕ → Replica → Type 0
+Skims r first count whole = SkimsPart {X = Replica × ℕ} (λ s. s.0) (λ s. s.1) r first count whole
+
+-- the first part
+pub first_more : (had : Option (Replica × ℕ)) (r : Result (Replica × ℕ) PartFault) (first : BatchName) (count : ℕ) (part : PartForm) → had ≡ None
+    → ((read : Replica) → IsWhole part → held_in part.bytes ≡ Ok read → Skims r first count read) → SkimsMore had r first count part
+first_more had r first count part is skims parts so =
+    let none : parts ≡ [] = subst (λ (o : Option (Replica × ℕ)). IsSkimOf o first count parts) is so in
+    let alone : SkimsRead r first count (part ∷ []) = λ whole opens. let one = opens_one part whole opens in skims whole one.0 one.1 in
+    subst (λ (l : List PartForm). SkimsRead r first count (l ++ part ∷ [])) (sym none) alone
+
+-- a further one
+module _ (skim : Replica × ℕ) (r : Result (Replica × ℕ) PartFault) (first : BatchName) (count : ℕ) (part : PartForm) (skims : (held read new : Replica) → IsWhole part → held_in part.bytes ≡ Ok read → merged held read ≡ Ok (tt, new) → IsEnough first count skim.0 skim.1 held → Skims r first count new) where
+  with_one : (parts : List PartForm) → SkimsRead (Ok skim) first count parts → SkimsRead r first count (parts ++ part ∷ [])
+  with_one [] so = absurd so
+  with_one (one ∷ others) so = λ whole opens.
+      let more = opens_more one others part whole opens in
+      skims more.held more.read whole more.one more.opens more.merges (so more.held more.before)
+
+  pub next_more : (had : Option (Replica × ℕ)) → had ≡ Some skim → SkimsMore had r first count part
+  next_more had is parts so = with_one parts (subst (λ (o : Option (Replica × ℕ)). IsSkimOf o first count parts) is so)
+
+-- ---- all of them
+
+-- what loads are answered from
+pub all_skimmed : {X : Type 0} (view : X → Replica) (batches : X → ℕ) (x : X) (skim : Replica × ℕ) (many : ℕ) (passed names : List (List ℕ)) (first : BatchName) (count : ℕ) (before after : List Call)
+    → AreReadSoFar (IsSkimOf (Some skim) first count) many (filter (is_wanted passed) names) before after
+    → ((whole : Replica) → IsEnough first count skim.0 skim.1 whole → batches x + count ≤ batch_limit → AnswersLoads first count (view x) whole)
+    → AreSkimmed view batches (Ok x) passed names first count before after
+all_skimmed {X} view batches x skim many passed names first count before after read answers = by read.parts read.found read.named read.so
+  where
+    by : (parts : List PartForm) → AreFound parts before after → names_of parts ≡ filter (is_wanted passed) names → SkimsRead (Ok skim) first count parts → AreSkimmed view batches (Ok x) passed names first count before after
+    by [] found named so = absurd so
+    by (part ∷ others) found named so = record {
+      part = part;
+      others = others;
+      found = found;
+      named = named;
+      answers = λ whole opens room. answers whole (so whole opens) room;
+    }
+
+-- memory ran out once all were read
+pub all_lack : (refusal : PartRefusal) (skim : Replica × ℕ) (many : ℕ) (passed names : List (List ℕ)) (first : BatchName) (count : ℕ) (before after : List Call)
+    → AreReadSoFar (IsSkimOf (Some skim) first count) many (filter (is_wanted passed) names) before after → refusal ≡ record { part = 0; fault = Refused Memory } → WereGiven names before after
+    → IsSkimRefused refusal passed first count before after
+all_lack refusal skim many passed names first count before after read is given = by read.parts read.found read.named read.so
+  where
+    by : (parts : List PartForm) → AreFound parts before after → names_of parts ≡ filter (is_wanted passed) names → SkimsRead (Ok skim) first count parts → IsSkimRefused refusal passed first count before after
+    by [] found named so = absurd so
+    by (part ∷ others) found named so = subst (λ (r : PartRefusal). IsSkimRefused r passed first count before after) (sym is) (record {
+      names = names;
+      given = given;
+      read = record {
+        part = part;
+        others = others;
+        found = found;
+        named = inr (named, (refl, refl));
+        answers = λ whole opens. inl refl;
+      };
+      listed = tt;
+    })
+
+-- one of them is refused
+pub one_refused : (refusal : PartRefusal) (passed names : List (List ℕ)) (first : BatchName) (count : ℕ) (before after : List Call)
+    → StopsReading (SkimsRead (Err refusal.fault) first count) refusal (filter (is_wanted passed) names) before after → IsListed is_refusal_of_part refusal.fault → WereGiven names before after
+    → IsSkimRefused refusal passed first count before after
+one_refused refusal passed names first count before after stops listed given = by stops.parts stops.found stops.named stops.counted stops.so
+  where
+    by : (parts : List PartForm) → AreFound parts before after → filter (is_wanted passed) names ≡ names_of parts ++ stops.rest → length parts ≡ suc refusal.part → SkimsRead (Err refusal.fault) first count parts
+        → IsSkimRefused refusal passed first count before after
+    by [] found named counted so = absurd so
+    by (part ∷ others) found named counted so = record {
+      names = names;
+      given = given;
+      read = record {
+        part = part;
+        others = others;
+        found = found;
+        named = inl (stops.rest, named, count_names (part ∷ others) (suc refusal.part) counted);
+        answers = so;
+      };
+      listed = listed;
+    }
+
+-- none is wanted
+none_kept : (p : List ℕ → Bool) (names : List (List ℕ)) (name : List ℕ) → filter p names ≡ [] → Among name names → p name ≡ true → ⊥
+none_kept p [] name none among passes = absurd among
+none_kept p (x ∷ names) name none among passes =
+    elim (p x) as (λ b. p x ≡ b → cond b (x ∷ filter p names) (filter p names) ≡ [] → ⊥) [
+      | true ↦ λ is some. let longer : suc (length (filter p names)) ≡ 0 = ap length some in absurd (omega (arith, longer))
+      | false ↦ λ fails rest. ⊎_elim (λ is. let both : true ≡ false = sym passes ∙ ap p is ∙ fails in cc) (λ there. none_kept p names name rest there passes) among
+    ] refl none
+
+pub none_wanted : (skim : Option (Replica × ℕ)) (many : ℕ) (passed names : List (List ℕ)) (first : BatchName) (count : ℕ) (before after : List Call) → skim ≡ None
+    → AreReadSoFar (IsSkimOf skim first count) many (filter (is_wanted passed) names) before after → AreUnwanted passed names
+none_wanted skim many passed names first count before after is read name among wanted =
+    let none : read.parts ≡ [] = subst (λ (o : Option (Replica × ℕ)). IsSkimOf o first count read.parts) is read.so in
+    none_kept (is_wanted passed) names name (sym read.named ∙ ap names_of none) among wanted
+
+-- ---- after the listing
+
+pub skimmed_later : {X : Type 0} (view : X → Replica) (batches : X → ℕ) (r : Result X PartRefusal) (passed names : List (List ℕ)) (first : BatchName) (count : ℕ) (before mid after : List Call) → Follows before mid
+    → AreSkimmed view batches r passed names first count mid after → AreSkimmed view batches r passed names first count before after
+skimmed_later view batches r passed names first count before mid after follows read = record {
+  part = read.part;
+  others = read.others;
+  found = found_later (read.part ∷ read.others) before mid after follows read.found;
+  named = read.named;
+  answers = read.answers;
+}
+
+given_later : (names : List (List ℕ)) (before mid after : List Call) → Follows before mid → WereGiven names mid after → WereGiven names before after
+given_later names before mid after (calls, was) (first, rest, is, gave) =
+    let joined : first ++ mid ≡ (first ++ calls) ++ before = ap (λ (l : List Call). first ++ l) was ∙ sym (append_assoc first calls before) in
+    (first ++ calls, rest, is ∙ ap (λ (l : List Call). rest ++ l) joined, subst (λ (l : List Call). listing_of l ≡ Gave names) joined gave)
+
+pub refused_later : (refusal : PartRefusal) (passed : List (List ℕ)) (first : BatchName) (count : ℕ) (before mid after : List Call) → Follows before mid → IsSkimRefused refusal passed first count mid after → IsSkimRefused refusal passed first count before after
+refused_later refusal passed first count before mid after follows is = record {
+  names = is.names;
+  given = given_later is.names before mid after follows is.given;
+  read = skimmed_later {X = Replica × ℕ} (λ s. s.0) (λ s. s.1) (Err refusal) passed is.names first count before mid after follows is.read;
+  listed = is.listed;
+}
