@@ -192,7 +192,7 @@ def each_call_in_a_folder_that_is_made_is_in_turn(room):
     make_folder(room, loads=3)
     for words, folder in ((("create", "n/", "T", "A", "SMALLINT"), "n"), (("merge", "m/", "d"), "m"), (("spread", "d", "s/", "u"), "s")):
         trace, status, err = traced(room, *words)
-        new = re.search(rf'"(\.{folder}\.lanes-new-[0-9a-f]{{16}})"', trace)
+        new = re.search(rf'"\./(\.{folder}\.lanes-new-[0-9a-f]{{16}})"', trace)
         assert status == 0 and new, f"{words} said {err!r}"
         try:
             process = follow(room, trace, new[1])
