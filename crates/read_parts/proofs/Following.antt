@@ -14,17 +14,36 @@ use Rattle.replica_commands.specs.Commands.{file_of, as_held}
 use Rattle.replica_commands.specs.Forgetting.{forgetting}
 use Rattle.folder_home.specs.Covers.{folder_parts}
 use Rattle.folder_home.specs.PartName.{part_name}
+use Rattle.folder_home.specs.Parts.{JoinsPart, OpensPart}
 use Rattle.folder_commands.specs.Joined.{IsJoinOf, AreRead}
 use Rattle.folder_commands.specs.Replacing.{AreCoveredBy}
 use Rattle.folder_commands.specs.Wanted.{is_wanted}
-use Rattle.folder_commands.proofs.Joins.{from_reverse, to_reverse}
+use Rattle.folder_commands.proofs.Joins.{first_joined, from_reverse, next_joined, to_reverse}
 use Rattle.folder_commands.proofs.Replacings.{are_joined, pack_covered, forget_covered}
 use Rattle.read_parts.specs.Orders.{MayFollow, WereRead, matter_replacing, names_of}
 
 -- the names with one more
-pub name_more : (name bytes : List ℕ) (files names more : List (List ℕ)) → name ≡ part_name bytes → names ≡ names_of files → more ≡ names ++ name ∷ [] → more ≡ names_of (bytes ∷ files)
+name_more : (name bytes : List ℕ) (files names more : List (List ℕ)) → name ≡ part_name bytes → names ≡ names_of files → more ≡ names ++ name ∷ [] → more ≡ names_of (bytes ∷ files)
 name_more name bytes files names more named are is =
     is ∙ (λ i. are i ++ (named i ∷ [])) ∙ sym (map-append part_name (reverse files) (bytes ∷ [])) ∙ ap (map part_name) (sym (reverse-append (bytes ∷ []) files))
+
+-- ---- one part after another
+
+-- the first part is held
+pub first_read : (join : Replica) (name bytes : List ℕ) (files names : List (List ℕ)) → files ≡ bytes ∷ [] → OpensPart {X = Replica} (λ r. r) (Ok join) (record { name = name; bytes = bytes }) → names ≡ [] ++ name ∷ []
+    → IsJoinOf (Some join) files × (names ≡ names_of files)
+first_read join name bytes files names is opens named =
+    subst (λ (l : List (List ℕ)). IsJoinOf (Some join) l × (names ≡ names_of l)) (sym is)
+    (first_joined name bytes [] join opens refl, named ∙ ap (λ (n : List ℕ). n ∷ []) opens.0)
+
+-- and so is a further one
+pub next_read : (was join : Replica) (name bytes : List ℕ) (taken files before names : List (List ℕ)) → files ≡ bytes ∷ taken → JoinsPart {X = Replica} (λ r. r) (Ok join) was (record { name = name; bytes = bytes })
+    → IsJoinOf (Some was) taken → before ≡ names_of taken → names ≡ before ++ name ∷ [] → IsJoinOf (Some join) files × (names ≡ names_of files)
+next_read was join name bytes taken files before names is joins joined are more =
+    subst (λ (l : List (List ℕ)). IsJoinOf (Some join) l × (names ≡ names_of l)) (sym is)
+    (next_joined name bytes taken was join joins joined, name_more name bytes taken before names joins.0 are more)
+
+-- ---- what may be followed
 
 -- a name is that of a file
 of_name : (name : List ℕ) (files : List (List ℕ)) → Among name (map part_name files) → (file : List ℕ) × (name ≡ part_name file) × Among file files
