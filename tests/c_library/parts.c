@@ -173,7 +173,7 @@ static void try_forget(const part *of, size_t wanted, bytes left) {
 
 /* What is packed next, by sizes; and what a head says, of which the front of a part is enough. */
 static void try_plans(part one, bytes empty) {
-    static const uint64_t sizes[] = {7, 7, 2, 100, 17, 900};
+    static const uint64_t sizes[] = {7, 7, 2, 100, 16, 900};
     lanes_table table = LANES_CLOSED;
     lanes_place place;
     size_t batches = 7;

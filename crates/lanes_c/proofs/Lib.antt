@@ -20,3 +20,4 @@ pub mod TurnHandleFields
 pub mod PartsHandleFields
 pub mod TurnEnds
 pub mod TurnSteps
+pub mod PartsTaken

@@ -27,6 +27,7 @@ rows_deleted answer = 0
 abbrev pub Deleted : Type 0
 Deleted = Result (ℕ × List ℕ) Fault
 
+-- the same of what is in memory
 abbrev pub part_by : Result DeletePart Fault → Deleted
 part_by (Ok part) = Ok (part.rows, part.bytes.items)
 part_by (Err fault) = Err fault

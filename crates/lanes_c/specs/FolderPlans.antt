@@ -20,6 +20,7 @@ empty_head bytes = head_in bytes >>= λ found. Ok (empty_replica found.0, found.
 abbrev pub Headed : Type 0
 Headed = Result (Replica × ℕ) Fault
 
+-- the same of what is in memory
 abbrev pub head_by : Result EmptyHead Fault → Headed
 head_by (Ok head) = Ok (head.shared.value.store.value.replica, head.batches)
 head_by (Err fault) = Err fault

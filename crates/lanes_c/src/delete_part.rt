@@ -75,9 +75,9 @@ pub extern "C" fn lanes_table_delete_part(
     let made = part_deleting_where(alloc, &shared.store, condition);
     drop(replace(table, Table::of_box(shared)).into_box(alloc));
     match made {
-        Ok(part) => {
-            *rows = part.rows;
-            hand_out(Ok(part.bytes), room, length, place)
+        Ok(DeletePart { rows: found, bytes }) => {
+            *rows = found;
+            hand_out(Ok(bytes), room, length, place)
         }
         Err(fault) => hand_out(Err(fault), room, length, place),
     }

@@ -78,7 +78,7 @@ fn shared_of(alloc: Global, parts: Box<ReadParts>) -> Result<Box<Shared>, Fault>
     Ok(Shared::new(alloc, store)?)
 }
 
-/// Puts a share into a handle, or leaves what it had if there is none. It tells a caller which.
+/// Puts a share into a handle, or leaves what it had, if a call was refused. It tells a caller which.
 fn put_share(
     alloc: Global,
     table: &mut Table,

@@ -1,1 +1,1 @@
-mod Following
+pub mod Following
