@@ -1,8 +1,9 @@
 -- Those of some names that pass a test, name by name.
-use Rattle.std.specs.Prelude.{◌≡◌, ℕ, ◌+◌, ◌<◌, Bool, true, false, cond, List, [], ◌∷◌, ◌++◌, filter, length, map, take, drop}
-use Rattle.std.proofs.Common.{sym, ap, ◌∙◌, arith, get_or}
+use Rattle.std.specs.Prelude.{◌≡◌, ◌⊎◌, ℕ, suc, ◌+◌, ◌<◌, Bool, true, false, cond, List, [], ◌∷◌, ◌++◌, filter, length, map, take, drop}
+use Rattle.std.proofs.Common.{refl, inl, inr, ⊎_elim, sym, ap, ◌∙◌, arith, get_or}
 use Rattle.std.proofs.lemmas.List.{append-nil, get_or-map, length-map, map-append, take-append-drop}
 use Rattle.std.proofs.lemmas.List.Elements.{filter_more, filter-append}
+use Rattle.folder_history.specs.Disk.{Among}
 
 module _ {X : Type 0} (f : X → List ℕ) (p : List ℕ → Bool) (names : List X) (i : ℕ) (x : X) (below : i < length names) (is : x ≡ get_or names i x) where
   at : get_or (map f names) i (f x) ≡ f x
@@ -33,3 +34,12 @@ module _ {X : Type 0} (f : X → List ℕ) (p : List ℕ → Bool) (names : List
   kept_first passes =
       ap (filter p) (sym (take-append-drop (i + 1) (map f names))) ∙ filter-append p (take (i + 1) (map f names)) (drop (i + 1) (map f names))
       ∙ ap (λ (l : List (List ℕ)). l ++ filter p (drop (i + 1) (map f names))) (kept passes)
+
+-- none is kept
+pub none_kept : (p : List ℕ → Bool) (names : List (List ℕ)) (name : List ℕ) → filter p names ≡ [] → Among name names → p name ≡ true → ⊥
+none_kept p [] name none among passes = absurd among
+none_kept p (x ∷ names) name none among passes =
+    elim (p x) as (λ b. p x ≡ b → cond b (x ∷ filter p names) (filter p names) ≡ [] → ⊥) [
+      | true ↦ λ is some. let longer : suc (length (filter p names)) ≡ 0 = ap length some in absurd (omega (arith, longer))
+      | false ↦ λ fails rest. ⊎_elim (λ is. let both : true ≡ false = sym passes ∙ ap p is ∙ fails in cc) (λ there. none_kept p names name rest there passes) among
+    ] refl none

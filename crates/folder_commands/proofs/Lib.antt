@@ -3,6 +3,6 @@ pub mod Going
 pub mod Joins
 pub mod ReadParts
 pub mod Replacings
-pub mod Skimming
+pub mod Skims
 pub mod Temporaries
 pub mod Written

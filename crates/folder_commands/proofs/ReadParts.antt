@@ -42,39 +42,39 @@ abbrev pub More : (List PartForm → Type 0) → (List PartForm → Type 0) → 
 More P Q part = (parts : List PartForm) → P parts → Q (parts ++ part ∷ [])
 
 module _ (P Q : List PartForm → Type 0) (many : ℕ) (names : List (List ℕ)) (name : List ℕ) (before mid after : List Call) (read : AreReadSoFar P many names before mid) (first : Follows before mid) (one : ReadsOne name (More P Q) mid after) where
-  last : PartForm
-  last = record { name = name; bytes = one.0 }
+  abbrev newest : PartForm
+  newest = record { name = name; bytes = one.0 }
 
-  parts : List PartForm
-  parts = read.parts ++ last ∷ []
+  abbrev all : List PartForm
+  all = read.parts ++ newest ∷ []
 
-  found : AreFound parts before after
+  found : AreFound all before after
   found part among =
       ⊎_elim
       (λ a. has_before (Finds part.name part.bytes) before mid after (Read name (Some (Some one.0)) ∷ [], one.1) (read.found part a))
       (λ is. subst (λ (p : PartForm). HasCall (Finds p.name p.bytes) before after) (sym is) (has_later (Finds name one.0) before mid after first (has_now (Finds name one.0) mid after (Read name (Some (Some one.0))) one.1 (refl, refl))))
-      (among_end part read.parts last among)
+      (among_end part read.parts newest among)
 
-  since : (part : PartForm) → Among part parts → IsWhole part → HasReadSince folder_parts part.bytes after
+  since : (part : PartForm) → Among part all → IsWhole part → HasReadSince folder_parts part.bytes after
   since part among whole =
       subst (λ (l : List Call). HasReadSince folder_parts part.bytes l) (sym one.1)
-      (⊎_elim (λ a. inr (read.since part a whole)) (λ is. inl (ap (λ (p : PartForm). p.bytes) (sym is), ap (λ (p : PartForm). p.name) (sym is) ∙ whole)) (among_end part read.parts last among))
+      (⊎_elim (λ a. inr (read.since part a whole)) (λ is. inl (ap (λ (p : PartForm). p.bytes) (sym is), ap (λ (p : PartForm). p.name) (sym is) ∙ whole)) (among_end part read.parts newest among))
 
   pub read_more : AreReadSoFar Q (many + 1) (names ++ name ∷ []) before after
   read_more = record {
-    parts = parts;
+    parts = all;
     found = found;
     since = since;
     named = names_more read.parts name one.0 names read.named;
-    counted = count_more read.parts last many read.counted;
+    counted = count_more read.parts newest many read.counted;
     so = one.2 read.parts read.so;
   }
 
   pub stops_reading : (refusal : PartRefusal) (wanted rest : List (List ℕ)) → refusal.part ≡ many → wanted ≡ (names ++ name ∷ []) ++ rest → StopsReading Q refusal wanted before after
   stops_reading refusal wanted rest place split =
-      let long = count_more read.parts last many read.counted in
+      let long = count_more read.parts newest many read.counted in
       record {
-        parts = parts;
+        parts = all;
         rest = rest;
         found = found;
         named = split ∙ ap (λ (l : List (List ℕ)). l ++ rest) (sym (names_more read.parts name one.0 names read.named));

@@ -1,5 +1,5 @@
 //! What of a folder's parts is read for a load under given names.
-ghost use Rattle.std.specs.Prelude.{◌≡◌, ◌×◌, List, ℕ, Ok, Err, None, map, filter, string_bytes, IfOk, IfErr, IfSome, OnOk};
+ghost use Rattle.std.specs.Prelude.{◌≡◌, List, ℕ, Ok, Err, None, map, filter, string_bytes, IfOk, IfErr, IfSome, OnOk};
 ghost use Rattle.folder_history.specs.Turn.{Gave, listing_of};
 ghost use Rattle.folder_protocol.specs.Goes.{GoesInTurn};
 ghost use Rattle.folder_protocol.specs.Taking.{UntakenCause};

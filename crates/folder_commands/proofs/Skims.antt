@@ -20,6 +20,7 @@ use Rattle.folder_commands.specs.Joined.{AreUnwanted, WereGiven}
 use Rattle.folder_commands.specs.ReadParts.{AreFound, AreReadSoFar, StopsReading, names_of}
 use Rattle.folder_commands.specs.Skims.{AreSkimmed, IsSkimOf, IsSkimRefused, SkimsMore, SkimsRead}
 use Rattle.folder_commands.specs.Wanted.{is_wanted}
+use Rattle.folder_commands.proofs.Going.{none_kept}
 use Rattle.folder_commands.proofs.ReadParts.{count_names, found_later}
 
 -- ---- one part after another
@@ -81,10 +82,10 @@ all_lack refusal skim many passed names first count before after read is given =
         part = part;
         others = others;
         found = found;
-        named = inr (named, (refl, refl));
+        named = inr (named, refl, refl);
         answers = λ whole opens. inl refl;
       };
-      listed = tt;
+      listed = refl;
     })
 
 -- one of them is refused
@@ -110,14 +111,6 @@ one_refused refusal passed names first count before after stops listed given = b
     }
 
 -- none is wanted
-none_kept : (p : List ℕ → Bool) (names : List (List ℕ)) (name : List ℕ) → filter p names ≡ [] → Among name names → p name ≡ true → ⊥
-none_kept p [] name none among passes = absurd among
-none_kept p (x ∷ names) name none among passes =
-    elim (p x) as (λ b. p x ≡ b → cond b (x ∷ filter p names) (filter p names) ≡ [] → ⊥) [
-      | true ↦ λ is some. let longer : suc (length (filter p names)) ≡ 0 = ap length some in absurd (omega (arith, longer))
-      | false ↦ λ fails rest. ⊎_elim (λ is. let both : true ≡ false = sym passes ∙ ap p is ∙ fails in cc) (λ there. none_kept p names name rest there passes) among
-    ] refl none
-
 pub none_wanted : (skim : Option (Replica × ℕ)) (many : ℕ) (passed names : List (List ℕ)) (first : BatchName) (count : ℕ) (before after : List Call) → skim ≡ None
     → AreReadSoFar (IsSkimOf skim first count) many (filter (is_wanted passed) names) before after → AreUnwanted passed names
 none_wanted skim many passed names first count before after is read name among wanted =

@@ -1,0 +1,20 @@
+-- Those before this one that are wanted were read and skimmed.
+use Rattle.std.proofs.Common.{◌≡◌, ◌≤◌, map, take, string_bytes}
+use Rattle.std.specs.Prelude.{filter}
+use Rattle.folder_history.specs.Turn.{listing_of}
+use Rattle.folder_protocol.specs.Goes.{GoesInTurn}
+use Rattle.folder_home.specs.Covers.{folder_parts}
+use Rattle.folder_commands.specs.ReadParts.{AreReadSoFar}
+use Rattle.folder_commands.specs.Skims.{IsSkimOf}
+use Rattle.folder_commands.specs.Wanted.{is_wanted}
+use Rattle.folder_commands.proofs.skimming.skim_each.Given as goal
+
+abbrev pub invariant-loop-index : goal.invariant-loop-index
+invariant-loop-index g l =
+    let history = g.F.Folder.history in
+    record {
+      goes : GoesInTurn folder_parts (history l.fn.folder) (history l.folder);
+      listing : listing_of (history l.folder) ≡ listing_of (history l.fn.folder);
+      few : l.count ≤ l.index;
+      read : AreReadSoFar (IsSkimOf l.skim l.names.first l.names.count) l.count (filter (is_wanted (map string_bytes l.passed)) (take l.index (map string_bytes l.listed))) (history l.fn.folder) (history l.folder);
+    }
