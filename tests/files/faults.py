@@ -241,7 +241,8 @@ def a_name_that_can_not_be_drawn_is_told_and_nothing_is_changed(room):
         (("import", "--no-header", "t", "rows"), [UNREAD] * 16),
         (("import", "--no-header", "d", "rows"), [UNREAD] * 16 + ["refused WriteFault"]),
         (("delete-rows", "d", "1.1", "0", "0"), ["refused WriteFault"]),
-        (("create", "e/", "T", *COLUMNS), ["refused WriteFault"]),
+        # The name of the folder until it is whole, and that of the temporary in it.
+        (("create", "e/", "T", *COLUMNS), ["refused WriteFault"] * 2),
     ):
         trace, status, _, err = traced(room, words, ("-e", "trace=getrandom"))
         # The C library draws words of its own, for which it doesn't wait.
