@@ -23,8 +23,8 @@ first_is_read result held name bytes closed opens is = subst (λ (o : Option (Bo
 pub next_is_read : (result : Result Read PartFault) (held : Option (Box ReadParts)) (parts : Box ReadParts) (was : Read) (name bytes : List ℕ) → held ≡ Some parts → was ≡ parts.value
     → JoinsPart {X = Read} (λ (r : Read). r.0) result was.0 (record { name = name; bytes = bytes }) → IfOk result (λ (r : Read). r.1 ≡ bytes ∷ was.1)
     → IsRead result (read_of held) (record { name = name; bytes = bytes })
-next_is_read result held parts was name bytes open same joins is =
-    subst (λ (o : Option (Box ReadParts)). IsRead result (read_of o) (record { name = name; bytes = bytes })) (sym open)
+next_is_read result held parts was name bytes there same joins is =
+    subst (λ (o : Option (Box ReadParts)). IsRead result (read_of o) (record { name = name; bytes = bytes })) (sym there)
     (subst (λ (w : Read). JoinsPart {X = Read} (λ (r : Read). r.0) result w.0 (record { name = name; bytes = bytes }) × IfOk result (λ (r : Read). r.1 ≡ bytes ∷ w.1)) same (joins, is))
 
 -- the name is that of the text

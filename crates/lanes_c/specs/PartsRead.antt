@@ -23,7 +23,7 @@ use Rattle.lanes_c.specs.declared.fault.Fault.TheVariants.{NotOpen, Refused}
 use Rattle.lanes_c.specs.declared.fault.Place.{Place}
 use Rattle.lanes_c.specs.declared.handle.Table.{Table}
 use Rattle.lanes_c.specs.declared.parts_handle.FolderParts.{FolderParts}
-use Rattle.lanes_c.specs.declared.parts_turns.Forgetting.{Forgetting}
+use Rattle.lanes_c.specs.declared.parts_turns.BegunForget.{BegunForget}
 use Rattle.lanes_c.specs.declared.turn_handle.FolderTurn.{FolderTurn}
 
 -- ---- what is told of a call that gives something or is refused
@@ -134,7 +134,7 @@ state_in (Some turn) = Some (state_of turn.value)
 state_in None = None
 
 -- the same of what was made
-abbrev pub forgot_by : Result Forgetting Fault → Forgot
+abbrev pub forgot_by : Result BegunForget Fault → Forgot
 forgot_by (Ok f) = Ok (f.batches, state_in f.turn)
 forgot_by (Err fault) = Err fault
 

@@ -16,7 +16,7 @@ use std::boxed::Box;
 use std::mem::replace;
 
 /// What a forget begins: how many batches it drops, and its turn, if it drops some.
-struct Forgetting {
+struct BegunForget {
     batches: usize,
     turn: Option<Box<Turn>>,
 }
@@ -31,18 +31,18 @@ fn packing(alloc: Global, parts: Box<ReadParts>, temporary: &[u8]) -> Result<Box
 }
 
 /// The turn of a forget.
-fn forgetting(alloc: Global, parts: Box<ReadParts>, temporary: &[u8]) -> Result<Forgetting, Fault>
+fn forgetting(alloc: Global, parts: Box<ReadParts>, temporary: &[u8]) -> Result<BegunForget, Fault>
     ensures { Forgets (forgot_by result) temporary.now parts.value }
 {
     let temporary = text(alloc, temporary)?;
     let forget = Box::into_inner(parts).forget(alloc, temporary)?;
     let batches = forget.dropped.batches as usize;
     match forget.order {
-        None => Ok(Forgetting {
+        None => Ok(BegunForget {
             batches,
             turn: None,
         }),
-        Some(order) => Ok(Forgetting {
+        Some(order) => Ok(BegunForget {
             batches,
             turn: Some(Box::new(alloc, Turn::new(alloc, order))?),
         }),
@@ -104,7 +104,7 @@ pub extern "C" fn lanes_parts_forget(
     };
     match forgetting(alloc, held, temporary) {
         Ok(
-            Forgetting {
+            BegunForget {
                 batches: dropped,
                 turn: begun,
             },
