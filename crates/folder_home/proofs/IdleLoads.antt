@@ -8,7 +8,7 @@ use Rattle.replica_store.specs.Replica.{Replica}
 use Rattle.replica_commands.specs.Brings.{brought_to}
 use Rattle.replica_commands.specs.Commands.{Made}
 use Rattle.replica_commands.specs.FileLaws.{replica_of, inserts}
-use Rattle.replica_commands.specs.Loads.{LoadForm, named_batches, loaded, importing_as, chosen_name, new_since}
+use Rattle.replica_commands.specs.Loads.{named_batches, loaded, importing_as, chosen_name, new_since}
 use Rattle.replica_commands.specs.declared.importing.Imported.{Imported}
 use Rattle.replica_commands.proofs.FileLaws.{ok_one, bound_parts}
 use Rattle.replica_commands.proofs.OperationSets.{Adds}
