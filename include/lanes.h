@@ -31,7 +31,7 @@
 #include <stdint.h>
 
 /* The version that this header is of. lanes_version answers that of the library that is loaded. */
-#define LANES_VERSION "0.8.0"
+#define LANES_VERSION "0.9.0"
 
 #ifdef __cplusplus
 extern "C" {
@@ -672,7 +672,7 @@ size_t lanes_refusal(uint8_t number, uint8_t *out, size_t room);
  * has more than 256 bytes. */
 size_t lanes_sentence(uint8_t number, const lanes_place *place, uint8_t *out, size_t room);
 
-/* Gives the library's version, as "0.8.0", without a byte 0 at its end, and answers how many bytes it has. It is written if it
+/* Gives the library's version, as "0.9.0", without a byte 0 at its end, and answers how many bytes it has. It is written if it
  * fits. */
 size_t lanes_version(uint8_t *out, size_t room);
 

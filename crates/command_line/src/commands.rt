@@ -17,7 +17,7 @@ use std::alloc::{AllocError, Global};
 use table_model::{BatchName, RowName};
 
 /// The program's version.
-const VERSION: &str = "0.8.0";
+const VERSION: &str = "0.9.0";
 
 /// What is shown below the help of the program and that of `lanes run`.
 const SCRIPT_HELP: &str =
