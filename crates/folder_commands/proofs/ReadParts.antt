@@ -1,17 +1,21 @@
 -- The parts of a folder are read one after another.
-use Rattle.std.specs.Prelude.{◌≡◌, ◌⊎◌, ℕ, suc, ◌+◌, List, [], ◌∷◌, ◌++◌, length, map as each, Some}
-use Rattle.std.proofs.Common.{refl, sym, ap, subst, ◌∙◌, arith, inl, inr, ⊎_elim, length-append}
+use Rattle.std.specs.Prelude.{◌≡◌, ◌⊎◌, ℕ, ◌+◌, ◌<◌, Bool, true, false, List, [], ◌∷◌, ◌++◌, filter, length, map, take, drop, Some}
+use Rattle.std.proofs.Common.{refl, sym, ap, subst, ◌∙◌, arith, get_or, inl, inr, ⊎_elim, length-append}
+use Rattle.std.proofs.Math.Path.{transport}
 use Rattle.std.proofs.lemmas.List.{map-append, length-map}
 use Rattle.folder_history.specs.Call.{Call, Read}
 use Rattle.folder_history.specs.Disk.{Among}
 use Rattle.folder_history.specs.Turn.{HasReadSince}
 use Rattle.folder_protocol.specs.Causes.{HasCall}
 use Rattle.folder_protocol.specs.Keeping.{Finds}
+use Rattle.folder_protocol.specs.declared.taking.Untaken.{Untaken}
+use Rattle.folder_protocol.specs.declared.taking.Untaken.TheVariants.{Gone, Failed, Refused}
 use Rattle.folder_protocol.proofs.Causing.{Follows, has_now, has_later, has_before}
 use Rattle.folder_home.specs.Covers.{folder_parts}
 use Rattle.folder_home.specs.Parts.{PartForm, IsWhole}
 use Rattle.folder_home.specs.declared.fault.PartRefusal.{PartRefusal}
-use Rattle.folder_commands.specs.ReadParts.{AreFound, AreReadSoFar, ReadsOne, StopsReading, names_of}
+use Rattle.folder_commands.specs.ReadParts.{AreFound, AreReadSoFar, IfRefused, ReadsOne, StopsReading, names_of}
+use Rattle.folder_commands.proofs.Going.{kept, kept_first, passed_over}
 
 -- ---- one more
 
@@ -90,3 +94,31 @@ count_names parts many is = length-map parts (λ (part : PartForm). part.name) �
 
 pub found_later : (parts : List PartForm) (before mid after : List Call) → Follows before mid → AreFound parts mid after → AreFound parts before after
 found_later parts before mid after first found part among = has_later (Finds part.name part.bytes) before mid after first (found part among)
+
+-- ---- those of some names that are wanted
+
+-- what is so of a refusal
+pub if_refused : {E : Type 0} (fault : Untaken E) (P Q : E → Type 0) → ((refusal : E) → P refusal → Q refusal) → IfRefused fault P → IfRefused fault Q
+if_refused Gone P Q more so = tt
+if_refused (Failed error) P Q more so = tt
+if_refused (Refused refusal) P Q more so = more refusal so
+
+module _ {X : Type 0} (f : X → List ℕ) (p : List ℕ → Bool) (names : List X) (i : ℕ) (x : X) (below : i < length names) (is : x ≡ get_or names i x) where
+  -- one that is not
+  pub read_over : (P : List PartForm → Type 0) (many next : ℕ) (before mid now : List Call) → p (f x) ≡ false → next ≡ many → now ≡ mid → AreReadSoFar P many (filter p (take i (map f names))) before mid → AreReadSoFar P next (filter p (take (i + 1) (map f names))) before now
+  read_over P many next before mid now fails same still read =
+      let left : filter p (take (i + 1) (map f names)) ≡ filter p (take i (map f names)) = passed_over f p names i x below is fails in transport (λ j. AreReadSoFar P (sym same j) (sym left j) before (sym still j)) read
+
+  -- one that is, and is read
+  module _ (P Q : List PartForm → Type 0) (many : ℕ) (name : List ℕ) (before mid after : List Call) (named : name ≡ f x) (passes : p (f x) ≡ true) (read : AreReadSoFar P many (filter p (take i (map f names))) before mid) (first : Follows before mid) (one : ReadsOne name (More P Q) mid after) where
+    own : ReadsOne (f x) (More P Q) mid after
+    own = subst (λ (n : List ℕ). ReadsOne n (More P Q) mid after) named one
+
+    pub read_next : (next : ℕ) (now : List Call) → next ≡ many + 1 → now ≡ after → AreReadSoFar Q next (filter p (take (i + 1) (map f names))) before now
+    read_next next now same still =
+        let more : filter p (take (i + 1) (map f names)) ≡ filter p (take i (map f names)) ++ f x ∷ [] = kept f p names i x below is passes in
+        transport (λ j. AreReadSoFar Q (sym same j) (sym more j) before (sym still j)) (read_more P Q many (filter p (take i (map f names))) (f x) before mid after read first own)
+
+    pub read_stops : (refusal : PartRefusal) → refusal.part ≡ many → StopsReading Q refusal (filter p (map f names)) before after
+    read_stops refusal place =
+        stops_reading P Q many (filter p (take i (map f names))) (f x) before mid after read first own refusal (filter p (map f names)) (filter p (drop (i + 1) (map f names))) place (kept_first f p names i x below is passes)
