@@ -21,3 +21,4 @@ pub mod PartsHandleFields
 pub mod TurnEnds
 pub mod TurnSteps
 pub mod PartsTaken
+pub mod DeleteParts

@@ -1,35 +1,35 @@
--- Parts are taken one after another, and what comes of them is told.
-use Rattle.std.specs.Prelude.{◌≡◌, ◌⊎◌, ℕ, List, [], ◌∷◌, MatchOption, Option, Some, None, Result, Ok, Err, IfOk}
-use Rattle.std.proofs.Common.{refl, sym, ap, subst, ◌∙◌, inl, inr}
-use Rattle.std.specs.Global.{Box}
-use Rattle.table_model.specs.declared.refusal.Refusal.{Refusal}
-use Rattle.table_model.specs.declared.refusal.Refusal.TheVariants.{Memory}
-use Rattle.folder_home.specs.Parts.{JoinsPart, OpensPart, PartForm}
-use Rattle.folder_home.specs.declared.fault.PartFault.{PartFault}
-use Rattle.read_parts.specs.declared.parts.ReadParts.{ReadParts}
-use Rattle.lanes_c.specs.Faults.{told_of_part}
+-- What a forget of parts begins.
+use Rattle.std.specs.Prelude.{◌≡◌, ℕ, List, [], MatchOption, Option, Some, None, Ok}
+use Rattle.std.proofs.Common.{sym, ap, subst, ◌∙◌}
+use Rattle.folder_replay.specs.Orders.{Matter, matter_of}
+use Rattle.folder_replay.specs.Turns.{State}
+use Rattle.folder_replay.specs.declared.order.Order.{Order}
+use Rattle.folder_replay.specs.declared.order.Task.{Task}
+use Rattle.replica_store.specs.Replica.{Replica}
+use Rattle.replica_commands.specs.Forgetting.{forgetting}
+use Rattle.read_parts.specs.Orders as parts
+use Rattle.read_parts.specs.declared.parts.Forget.{Forget}
 use Rattle.lanes_c.specs.PartsHandles.{Read}
-use Rattle.lanes_c.specs.PartsRead.{IsRead, TakesPart, read_of}
-use Rattle.lanes_c.specs.Taking.{NoText}
-use Rattle.lanes_c.specs.declared.fault.Fault.{Fault}
-use Rattle.lanes_c.specs.declared.fault.Fault.TheVariants.{Refused}
+use Rattle.lanes_c.specs.PartsRead.{Forgets, IsInTheirPlace, state_replacing, turn_of}
 
--- a part of a handle that is closed
-pub first_is_read : (result : Result Read PartFault) (held : Option (Box ReadParts)) (name bytes : List ℕ) → held ≡ None → OpensPart {X = Read} (λ (r : Read). r.0) result (record { name = name; bytes = bytes }) → IfOk result (λ (r : Read). r.1 ≡ bytes ∷ [])
-    → IsRead result (read_of held) (record { name = name; bytes = bytes })
-first_is_read result held name bytes closed opens is = subst (λ (o : Option (Box ReadParts)). IsRead result (read_of o) (record { name = name; bytes = bytes })) (sym closed) (opens, is)
+-- no batch is dropped
+pub forgets_none : (f : Forget) (was : Read) (temporary text : List ℕ) (batches : ℕ) → f.order ≡ None → batches ≡ f.dropped.batches → parts.Forgets f text was.0 was.1 → Forgets (Ok (batches, None)) temporary was
+forgets_none f was temporary text batches none count (left, made, order) = (
+  left,
+  f.dropped.rows,
+  subst (λ (n : ℕ). forgetting was.0 ≡ Ok ((n, f.dropped.rows), left)) (sym count) made,
+  count ∙ subst (λ (o : Option Order). MatchOption o (f.dropped.batches ≡ 0) (λ order. parts.Replaces order text left was.1)) none order,
+)
 
--- and of one that has parts
-pub next_is_read : (result : Result Read PartFault) (held : Option (Box ReadParts)) (parts : Box ReadParts) (was : Read) (name bytes : List ℕ) → held ≡ Some parts → was ≡ parts.value
-    → JoinsPart {X = Read} (λ (r : Read). r.0) result was.0 (record { name = name; bytes = bytes }) → IfOk result (λ (r : Read). r.1 ≡ bytes ∷ was.1)
-    → IsRead result (read_of held) (record { name = name; bytes = bytes })
-next_is_read result held parts was name bytes there same joins is =
-    subst (λ (o : Option (Box ReadParts)). IsRead result (read_of o) (record { name = name; bytes = bytes })) (sym there)
-    (subst (λ (w : Read). JoinsPart {X = Read} (λ (r : Read). r.0) result w.0 (record { name = name; bytes = bytes }) × IfOk result (λ (r : Read). r.1 ≡ bytes ∷ w.1)) same (joins, is))
-
--- the name is that of the text
-pub part_taken : (next : Read) (was : Option Read) (text name bytes : List ℕ) → text ≡ name → IsRead (Ok next) was (record { name = text; bytes = bytes }) → TakesPart (Ok next) was name bytes
-part_taken next was text name bytes same read = subst (λ (n : List ℕ). IsRead (Ok next) was (record { name = n; bytes = bytes })) same read
-
-pub part_refused : (why : PartFault) (was : Option Read) (text name bytes : List ℕ) → text ≡ name → IsRead (Err why) was (record { name = text; bytes = bytes }) → TakesPart (Err (told_of_part why)) was name bytes
-part_refused why was text name bytes same read = inr (inl (why, refl, subst (λ (n : List ℕ). IsRead (Err why) was (record { name = n; bytes = bytes })) same read))
+-- some are, and there is a turn
+pub forgets_some : (f : Forget) (order : Order) (was : Read) (temporary text : List ℕ) (batches : ℕ) (state : State) → f.order ≡ Some order → batches ≡ f.dropped.batches → text ≡ temporary → state ≡ turn_of order
+    → parts.Forgets f text was.0 was.1 → MatchOption f.order (Unit {0}) (λ order. parts.MayFollow order.task (matter_of order) was.1) → Forgets (Ok (batches, Some state)) temporary was
+forgets_some f order was temporary text batches state some count same is (left, made, ordered) may =
+    let put = subst (λ (o : Option Order). MatchOption o (f.dropped.batches ≡ 0) (λ order. parts.Replaces order text left was.1)) some ordered in
+    let follows = subst (λ (o : Option Order). MatchOption o (Unit {0}) (λ order. parts.MayFollow order.task (matter_of order) was.1)) some may in
+    let begun : turn_of order ≡ state_replacing text left was.1 = λ i. record { task = put.0 i; matter = put.1 i; calls = []; asked = None; listed = [] } in (
+      left,
+      f.dropped.rows,
+      subst (λ (n : ℕ). forgetting was.0 ≡ Ok ((n, f.dropped.rows), left)) (sym count) made,
+      (is ∙ begun ∙ ap (λ (t : List ℕ). state_replacing t left was.1) same, subst (λ (s : State). parts.MayFollow s.task s.matter was.1) (sym is) follows),
+    )

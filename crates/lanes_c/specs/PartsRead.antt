@@ -4,8 +4,9 @@ use Rattle.std.specs.Global.{Box}
 use Rattle.table_model.specs.declared.refusal.Refusal.TheVariants.{Memory}
 use Rattle.folder_home.specs.Parts.{JoinsPart, OpensPart, PartForm}
 use Rattle.folder_home.specs.declared.fault.PartFault.{PartFault}
-use Rattle.folder_replay.specs.Orders.{Matter}
+use Rattle.folder_replay.specs.Orders.{matter_of}
 use Rattle.folder_replay.specs.Turns.{State, state_of}
+use Rattle.folder_replay.specs.declared.order.Order.{Order}
 use Rattle.folder_replay.specs.declared.order.Task.TheVariants.{Replace}
 use Rattle.folder_replay.specs.declared.turn.Turn.{Turn}
 use Rattle.replica_store.specs.Replica.{Replica}
@@ -92,6 +93,10 @@ OpensRead number was old new at =
 abbrev pub state_replacing : List ℕ → Replica → List (List ℕ) → State
 state_replacing temporary whole files =
     record { task = Replace; matter = matter_replacing temporary (names_of files) (file_of whole); calls = []; asked = None; listed = [] }
+
+-- a turn of an order, in which nothing was asked for yet
+abbrev pub turn_of : Order → State
+turn_of order = record { task = order.task; matter = matter_of order; calls = []; asked = None; listed = [] }
 
 -- Such a turn. After every history in which the parts were read its calls are in turn.
 abbrev pub IsInTheirPlace : State → List ℕ → Replica → List (List ℕ) → Type 0

@@ -1,7 +1,10 @@
 //! The calls that begin a turn in which something is put in the place of the parts that it was made of: a pack and a forget.
-ghost use Rattle.std.specs.Prelude.{◌≡◌, MatchOption, None};
-ghost use Rattle.lanes_c.specs.PartsRead.{Forgets, ForgetsRead, GivesPart, NoParts, Packs, PacksRead, begun_by, forgot_by};
+ghost use Rattle.std.specs.Prelude.{◌≡◌, IfErr, IfOk, MatchOption, None};
+ghost use Rattle.table_model.specs.declared.refusal.Refusal.TheVariants.{Memory};
+ghost use Rattle.folder_replay.specs.Turns.{state_of};
+ghost use Rattle.lanes_c.specs.PartsRead.{Forgets, ForgetsRead, GivesPart, NoParts, Packs, PacksRead, begun_by, forgot_by, turn_of};
 ghost use Rattle.lanes_c.specs.Rooms.{Tells};
+ghost use Rattle.lanes_c.specs.declared.fault.Fault.TheVariants.{Refused};
 
 use crate::fault::{Fault, NOT_OPEN, Place};
 use crate::folder_turns::text;
@@ -9,7 +12,7 @@ use crate::parts_handle::FolderParts;
 use crate::room::{hand_out, hand_over};
 use crate::table_changes::tell;
 use crate::turn_handle::FolderTurn;
-use folder_replay::Turn;
+use folder_replay::{Order, Turn};
 use read_parts::ReadParts;
 use std::alloc::Global;
 use std::boxed::Box;
@@ -21,13 +24,21 @@ struct BegunForget {
     turn: Option<Box<Turn>>,
 }
 
+/// The turn of an order.
+fn begun(alloc: Global, order: Order) -> Result<Box<Turn>, Fault>
+    ensures turn { IfOk result (λ turn. state_of turn.value ≡ turn_of order) }
+    ensures lack { IfErr result (λ fault. fault ≡ Refused Memory) }
+{
+    Ok(Box::new(alloc, Turn::new(alloc, order))?)
+}
+
 /// The turn of a pack.
 fn packing(alloc: Global, parts: Box<ReadParts>, temporary: &[u8]) -> Result<Box<Turn>, Fault>
     ensures { Packs (begun_by result) temporary.now parts.value }
 {
     let temporary = text(alloc, temporary)?;
     let order = Box::into_inner(parts).pack(alloc, temporary)?;
-    Ok(Box::new(alloc, Turn::new(alloc, order))?)
+    begun(alloc, order)
 }
 
 /// The turn of a forget.
@@ -44,7 +55,7 @@ fn forgetting(alloc: Global, parts: Box<ReadParts>, temporary: &[u8]) -> Result<
         }),
         Some(order) => Ok(BegunForget {
             batches,
-            turn: Some(Box::new(alloc, Turn::new(alloc, order))?),
+            turn: Some(begun(alloc, order)?),
         }),
     }
 }

@@ -1,0 +1,32 @@
+-- Why the part of a delete is refused.
+use Rattle.std.specs.Prelude.{◌≡◌, ◌⊎◌, ◌==◌, ℕ, cond, List, [], Option, Result, Ok, Err}
+use Rattle.std.proofs.Common.{sym, ap, subst, inl, inr, refl}
+use Rattle.table_model.specs.Reading.{◌>>=◌}
+use Rattle.table_model.specs.declared.refusal.Refusal.{Refusal}
+use Rattle.table_model.specs.declared.refusal.Refusal.TheVariants.{WriteFault}
+use Rattle.column_file.specs.Input.{IsUnread}
+use Rattle.folder_home.specs.PartsPut.{PutsPart}
+use Rattle.replica_store.specs.Replica.{Replica}
+use Rattle.replica_commands.specs.Brings.{deletes_brought}
+use Rattle.replica_commands.specs.CommandForms.{AnswerForm, Delete, OfDelete, answer_of, brought, has_changed, tagged}
+use Rattle.replica_commands.specs.Commands.{Made, file_made, file_of}
+use Rattle.replica_commands.specs.declared.command.Answer.{Answer}
+use Rattle.lanes_c.specs.Calls.{Yields}
+use Rattle.lanes_c.specs.DeletePart.{part_of_delete}
+use Rattle.lanes_c.specs.Faults.{told}
+
+-- what is refused as a file is refused as a part
+refused_too : (made : Made ℕ) (e : Refusal) → file_made (tagged OfDelete made) ≡ Err e → ◌≡◌ {A = Result (ℕ × List ℕ) Refusal} (made >>= λ done. Ok (done.0, cond (done.0 == 0) [] (file_of done.1))) (Err e)
+refused_too (Ok done) e is = absurd cc
+refused_too (Err other) e is = let same : other ≡ e = cc in ap (λ (x : Refusal). let r : Result (ℕ × List ℕ) Refusal = Err x in r) same
+
+-- writing into memory fails only if memory runs out
+why_refused : (e : Refusal) (meaning : Result (ℕ × List ℕ) Refusal) → (meaning ≡ Err e) ⊎ IsUnread e → Yields {X = ℕ × List ℕ} (Err (told e)) meaning
+why_refused WriteFault meaning why = inr (inl refl)
+why_refused other meaning why = why
+
+pub delete_refused : (text : List ℕ) (held : Replica) (e : Refusal) (before now : Option (List ℕ)) → PutsPart {X = Answer} answer_of has_changed (Err e) before now (brought (Delete text) held)
+    → Yields {X = ℕ × List ℕ} (Err (told e)) (part_of_delete text held)
+delete_refused text held e before now (inl (same, inl is)) = why_refused e (part_of_delete text held) (inl (refused_too (deletes_brought text held) e is))
+delete_refused text held e before now (inl (same, inr unread)) = why_refused e (part_of_delete text held) (inr unread)
+delete_refused text held e before now (inr (is, front)) = subst (λ (x : Refusal). Yields {X = ℕ × List ℕ} (Err (told x)) (part_of_delete text held)) (sym is) (inr (inl refl))
