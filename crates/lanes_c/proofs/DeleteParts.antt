@@ -8,7 +8,7 @@ use Rattle.column_file.specs.Input.{IsUnread}
 use Rattle.folder_home.specs.PartsPut.{PutsPart}
 use Rattle.replica_store.specs.Replica.{Replica}
 use Rattle.replica_commands.specs.Brings.{deletes_brought}
-use Rattle.replica_commands.specs.CommandForms.{AnswerForm, Delete, OfDelete, answer_of, brought, has_changed, tagged}
+use Rattle.replica_commands.specs.CommandForms.{Delete, OfDelete, answer_of, brought, has_changed, tagged}
 use Rattle.replica_commands.specs.Commands.{Made, file_made, file_of}
 use Rattle.replica_commands.specs.declared.command.Answer.{Answer}
 use Rattle.lanes_c.specs.Calls.{Asks, Yields}
