@@ -1,5 +1,5 @@
--- Why the part of a delete is refused.
-use Rattle.std.specs.Prelude.{◌≡◌, ◌⊎◌, ◌==◌, ℕ, cond, List, [], Option, Result, Ok, Err}
+-- Why the part of a delete is refused, and what is told then.
+use Rattle.std.specs.Prelude.{◌≡◌, ◌⊎◌, ◌==◌, ℕ, cond, List, [], Option, Some, Result, Ok, Err}
 use Rattle.std.proofs.Common.{sym, ap, subst, inl, inr, refl}
 use Rattle.table_model.specs.Reading.{◌>>=◌}
 use Rattle.table_model.specs.declared.refusal.Refusal.{Refusal}
@@ -8,12 +8,15 @@ use Rattle.column_file.specs.Input.{IsUnread}
 use Rattle.folder_home.specs.PartsPut.{PutsPart}
 use Rattle.replica_store.specs.Replica.{Replica}
 use Rattle.replica_commands.specs.Brings.{deletes_brought}
-use Rattle.replica_commands.specs.CommandForms.{AnswerForm, Delete, OfDelete, answer_of, brought, has_changed, tagged}
+use Rattle.replica_commands.specs.CommandForms.{Delete, OfDelete, answer_of, brought, has_changed, tagged}
 use Rattle.replica_commands.specs.Commands.{Made, file_made, file_of}
 use Rattle.replica_commands.specs.declared.command.Answer.{Answer}
-use Rattle.lanes_c.specs.Calls.{Yields}
-use Rattle.lanes_c.specs.DeletePart.{part_of_delete}
+use Rattle.lanes_c.specs.Calls.{Asks, Yields}
+use Rattle.lanes_c.specs.DeletePart.{DeletesOpen, part_of_delete}
 use Rattle.lanes_c.specs.Faults.{told}
+use Rattle.lanes_c.specs.Rooms.{length_told, number_told, place_told, room_left}
+use Rattle.lanes_c.specs.declared.fault.Fault.{Fault}
+use Rattle.lanes_c.specs.declared.fault.Place.{Place}
 
 -- what is refused as a file is refused as a part
 refused_too : (made : Made ℕ) (e : Refusal) → file_made (tagged OfDelete made) ≡ Err e → ◌≡◌ {A = Result (ℕ × List ℕ) Refusal} (made >>= λ done. Ok (done.0, cond (done.0 == 0) [] (file_of done.1))) (Err e)
@@ -30,3 +33,10 @@ pub delete_refused : (text : List ℕ) (held : Replica) (e : Refusal) (before no
 delete_refused text held e before now (inl (same, inl is)) = why_refused e (part_of_delete text held) (inl (refused_too (deletes_brought text held) e is))
 delete_refused text held e before now (inl (same, inr unread)) = why_refused e (part_of_delete text held) (inr unread)
 delete_refused text held e before now (inr (is, front)) = subst (λ (x : Refusal). Yields {X = ℕ × List ℕ} (Err (told x)) (part_of_delete text held)) (sym is) (inr (inl refl))
+
+-- what is told of a refusal
+pub delete_told : (condition : List ℕ) (was : Option Replica) (r : Replica) (fault : Fault) (number : ℕ) (old new : List ℕ) (length : ℕ) (at : Place) → was ≡ Some r → Asks {X = ℕ × List ℕ} (Err fault) condition (part_of_delete condition r)
+    → number ≡ number_told (Err fault) → new ≡ room_left (Err fault) old → length ≡ length_told (Err fault) → at ≡ place_told (Err fault) → DeletesOpen condition was number 0 old new length at
+delete_told condition was r fault number old new length at held why told left none place =
+    subst (λ (o : Option Replica). DeletesOpen condition o number 0 old new length at) (sym held)
+    (record { given = Err fault; meant = why; count = refl; told = record { given = Err fault; meant = refl; number = told; room = left; length = none; place = place } })

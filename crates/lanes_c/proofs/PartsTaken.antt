@@ -1,16 +1,14 @@
 -- What a forget of parts begins.
 use Rattle.std.specs.Prelude.{◌≡◌, ℕ, List, [], MatchOption, Option, Some, None, Ok}
 use Rattle.std.proofs.Common.{sym, ap, subst, ◌∙◌}
-use Rattle.folder_replay.specs.Orders.{Matter, matter_of}
+use Rattle.folder_replay.specs.Orders.{matter_of}
 use Rattle.folder_replay.specs.Turns.{State}
 use Rattle.folder_replay.specs.declared.order.Order.{Order}
-use Rattle.folder_replay.specs.declared.order.Task.{Task}
-use Rattle.replica_store.specs.Replica.{Replica}
 use Rattle.replica_commands.specs.Forgetting.{forgetting}
 use Rattle.read_parts.specs.Orders as parts
 use Rattle.read_parts.specs.declared.parts.Forget.{Forget}
 use Rattle.lanes_c.specs.PartsHandles.{Read}
-use Rattle.lanes_c.specs.PartsRead.{Forgets, IsInTheirPlace, state_replacing, turn_of}
+use Rattle.lanes_c.specs.PartsRead.{Forgets, state_replacing, turn_of}
 
 -- no batch is dropped
 pub forgets_none : (f : Forget) (was : Read) (temporary text : List ℕ) (batches : ℕ) → f.order ≡ None → batches ≡ f.dropped.batches → parts.Forgets f text was.0 was.1 → Forgets (Ok (batches, None)) temporary was

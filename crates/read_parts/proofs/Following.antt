@@ -20,7 +20,6 @@ use Rattle.folder_home.specs.PartName.{part_name}
 use Rattle.folder_home.specs.Parts.{JoinsPart, OpensPart}
 use Rattle.folder_commands.specs.Joined.{IsJoinOf, AreRead}
 use Rattle.folder_commands.specs.Replacing.{AreCoveredBy}
-use Rattle.folder_commands.specs.Wanted.{is_wanted}
 use Rattle.folder_commands.proofs.Joins.{first_joined, from_reverse, next_joined, to_reverse}
 use Rattle.folder_commands.proofs.Replacings.{are_joined, pack_covered, forget_covered}
 use Rattle.read_parts.specs.Orders.{MayFollow, Replaces, WereRead, matter_replacing, names_of}

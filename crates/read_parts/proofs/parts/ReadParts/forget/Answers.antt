@@ -22,9 +22,12 @@ pub returns-clause-forgot : goal.returns-clause-forgot
 returns-clause-forgot c =
     let left = c.in-Ok.ensures in
     let written = left.2 (is_some c.in-Ok.both.0.batches c.if-dropped-eq0.false) in
-    subst (λ (w : Replica × List (List ℕ)). (left : Replica) × (forgetting w.0 ≡ Ok ((c.in-Ok.both.0.batches, c.in-Ok.both.0.rows), left)) × Replaces c.in_ok-order.order (string_bytes c.args.temporary) left w.1) c.self.view_is
-    (left.0, left.1, replaces c.in_ok-order.order left.0 (bytes_read (calls_of c.self.inside.calls.noted)) (string_bytes c.args.temporary) c.in-Ok.both.1.items (map string_bytes c.as_slice.result.now) c.in_ok-order.ensures
-    (ap (λ (l : List (String Global)). map string_bytes l) c.as_slice.ensures.value ∙ c.self.invariant.1) written)
+    subst (λ (w : Replica × List (List ℕ)). (left : Replica) × (forgetting w.0 ≡ Ok ((c.in-Ok.both.0.batches, c.in-Ok.both.0.rows), left)) × Replaces c.in_ok-order.order (string_bytes c.args.temporary) left w.1) c.self.view_is (
+      left.0,
+      left.1,
+      replaces c.in_ok-order.order left.0 (bytes_read (calls_of c.self.inside.calls.noted)) (string_bytes c.args.temporary) c.in-Ok.both.1.items (map string_bytes c.as_slice.result.now) c.in_ok-order.ensures
+          (ap (λ (l : List (String Global)). map string_bytes l) c.as_slice.ensures.value ∙ c.self.invariant.1) written,
+    )
 
 pub returns-clause-in_turn : goal.returns-clause-in_turn
 returns-clause-in_turn c =
