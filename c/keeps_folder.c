@@ -28,13 +28,18 @@ static void *room_for(size_t size) {
     return at;
 }
 
-/* Ends the program with the name of a refusal and its sentence. */
-static void expect(uint8_t number, lanes_place place) {
+/* Tells the name of a refusal and its sentence. */
+static void tell(uint8_t number, lanes_place place) {
     uint8_t name[32], sentence[256];
-    if (!number) return;
     size_t name_length = lanes_refusal(number, name, sizeof name), length = lanes_sentence(number, &place, sentence, sizeof sentence);
     fprintf(stderr, "refused %.*s: %.*s\n", (int)name_length, (const char *)name, (int)length, (const char *)sentence);
     if (number == LANES_SYSTEM) fprintf(stderr, "%s\n", strerror((int)place.first));
+}
+
+/* Ends the program if a call was refused. */
+static void expect(uint8_t number, lanes_place place) {
+    if (!number) return;
+    tell(number, place);
     exit(1);
 }
 
@@ -55,8 +60,11 @@ static lanes_parts taken(const char *folder, lanes_part_names *names) {
         int is_gone;
         expect(lanes_folder_follow(folder, LANES_FOLDER_LIST, &none, 0, NULL, names, &came, &place), place);
         uint8_t number = lanes_folder_take(folder, names, &parts, &is_gone, &at, &place);
-        if (number) fprintf(stderr, "%s/%s: ", folder, names->names[at]);
-        expect(number, place);
+        if (number) {
+            tell(number, place);
+            fprintf(stderr, "%s/%s\n", folder, names->names[at]);
+            exit(1);
+        }
         if (!is_gone) return parts;
         free(names->names);
     }
