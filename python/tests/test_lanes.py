@@ -172,7 +172,7 @@ class Queries(unittest.TestCase):
             self.assertEqual((share.call_count, close.call_count), (1, 1))
 
     def test_a_closed_handle_is_told_by_name(self) -> None:
-        opened = Opened(counts(FIRST).to_bytes())
+        opened = Opened.of_file(counts(FIRST).to_bytes())
         opened.__del__()
         with self.assertRaises(Refused) as caught:
             opened.ask(b"SELECT SUM(HITS) FROM COUNTS")
