@@ -1,7 +1,10 @@
+pub mod Answering
 pub mod Commands
 pub mod Going
 pub mod Joins
 pub mod ReadParts
+pub mod Relied
+pub mod Refused
 pub mod Replacings
 pub mod Skims
 pub mod Temporaries

@@ -11,10 +11,10 @@ use Rattle.folder_protocol.specs.Keeping.{Finds}
 use Rattle.folder_protocol.specs.declared.taking.Untaken.{Untaken}
 use Rattle.folder_protocol.specs.declared.taking.Untaken.TheVariants.{Gone, Failed, Refused}
 use Rattle.folder_protocol.proofs.Causing.{Follows, has_now, has_later, has_before}
-use Rattle.folder_home.specs.Covers.{folder_parts}
+use Rattle.folder_home.specs.Covers.{folder_home}
 use Rattle.folder_home.specs.Parts.{PartForm, IsWhole}
 use Rattle.folder_home.specs.declared.fault.PartRefusal.{PartRefusal}
-use Rattle.folder_commands.specs.ReadParts.{AreFound, AreReadSoFar, IfRefused, ReadsOne, StopsReading, names_of}
+use Rattle.folder_commands.specs.ReadParts.{AreFound, AreReadSoFar, IfRefused, More, ReadsOne, StopsReading, names_of}
 use Rattle.folder_commands.proofs.Going.{kept, kept_first, passed_over}
 
 -- ---- one more
@@ -41,10 +41,6 @@ none_read P h so = record {
   so = so;
 }
 
--- what is so of the parts with one more
-abbrev pub More : (List PartForm → Type 0) → (List PartForm → Type 0) → PartForm → Type 0
-More P Q part = (parts : List PartForm) → P parts → Q (parts ++ part ∷ [])
-
 module _ (P Q : List PartForm → Type 0) (many : ℕ) (names : List (List ℕ)) (name : List ℕ) (before mid after : List Call) (read : AreReadSoFar P many names before mid) (first : Follows before mid) (one : ReadsOne name (More P Q) mid after) where
   abbrev newest : PartForm
   newest = record { name = name; bytes = one.0 }
@@ -59,9 +55,9 @@ module _ (P Q : List PartForm → Type 0) (many : ℕ) (names : List (List ℕ))
       (λ is. subst (λ (p : PartForm). HasCall (Finds p.name p.bytes) before after) (sym is) (has_later (Finds name one.0) before mid after first (has_now (Finds name one.0) mid after (Read name (Some (Some one.0))) one.1 (refl, refl))))
       (among_end part read.parts newest among)
 
-  since : (part : PartForm) → Among part all → IsWhole part → HasReadSince folder_parts part.bytes after
+  since : (part : PartForm) → Among part all → IsWhole part → HasReadSince folder_home part.bytes after
   since part among whole =
-      subst (λ (l : List Call). HasReadSince folder_parts part.bytes l) (sym one.1)
+      subst (λ (l : List Call). HasReadSince folder_home part.bytes l) (sym one.1)
       (⊎_elim (λ a. inr (read.since part a whole)) (λ is. inl (ap (λ (p : PartForm). p.bytes) (sym is), ap (λ (p : PartForm). p.name) (sym is) ∙ whole)) (among_end part read.parts newest among))
 
   pub read_more : AreReadSoFar Q (many + 1) (names ++ name ∷ []) before after
@@ -85,6 +81,17 @@ module _ (P Q : List PartForm → Type 0) (many : ℕ) (names : List (List ℕ))
         counted = omega (arith, long, place);
         so = one.2 read.parts read.so;
       }
+
+-- what follows is so, too
+pub read_so : (P Q : List PartForm → Type 0) → ((parts : List PartForm) → P parts → Q parts) → (many : ℕ) (names : List (List ℕ)) (before after : List Call) → AreReadSoFar P many names before after → AreReadSoFar Q many names before after
+read_so P Q follows many names before after read = record {
+  parts = read.parts;
+  found = read.found;
+  since = read.since;
+  named = read.named;
+  counted = read.counted;
+  so = follows read.parts read.so;
+}
 
 -- there are as many names as parts
 pub count_names : (parts : List PartForm) (many : ℕ) → length parts ≡ many → length (names_of parts) ≡ many

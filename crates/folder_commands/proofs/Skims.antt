@@ -1,5 +1,5 @@
 -- The parts of a folder are skimmed one after another, as they are read.
-use Rattle.std.specs.Prelude.{◌≡◌, ℕ, suc, ◌+◌, ◌≤◌, Bool, true, false, cond, List, [], ◌∷◌, ◌++◌, filter, length, Option, Some, None, Result, Ok, Err}
+use Rattle.std.specs.Prelude.{◌≡◌, ℕ, suc, ◌+◌, ◌≤◌, Bool, true, false, cond, List, [], ◌∷◌, ◌++◌, filter, length, Option, Some, None, Result, Ok, Err, IfOk, IfErr}
 use Rattle.std.proofs.Common.{refl, sym, ap, subst, ◌∙◌, arith, inl, inr, ⊎_elim, append_assoc}
 use Rattle.table_model.specs.declared.names.BatchName.{BatchName}
 use Rattle.table_model.specs.declared.refusal.Refusal.TheVariants.{Memory}
@@ -17,8 +17,8 @@ use Rattle.folder_home.specs.declared.fault.PartFault.TheVariants.{Refused}
 use Rattle.folder_home.specs.declared.fault.PartRefusal.{PartRefusal}
 use Rattle.folder_home.proofs.SkimmedSoFar.{opens_one, opens_more}
 use Rattle.folder_commands.specs.Joined.{AreUnwanted, WereGiven}
-use Rattle.folder_commands.specs.ReadParts.{AreFound, AreReadSoFar, StopsReading, names_of}
-use Rattle.folder_commands.specs.Skims.{AreSkimmed, IsSkimOf, IsSkimRefused, SkimsMore, SkimsRead}
+use Rattle.folder_commands.specs.ReadParts.{AreFound, AreReadSoFar, More, StopsReading, names_of}
+use Rattle.folder_commands.specs.Skims.{AreSkimmed, IsSkimOf, IsSkimRefused, SkimsRead}
 use Rattle.folder_commands.specs.Wanted.{is_wanted}
 use Rattle.folder_commands.proofs.Going.{none_kept}
 use Rattle.folder_commands.proofs.ReadParts.{count_names, found_later}
@@ -28,6 +28,10 @@ use Rattle.folder_commands.proofs.ReadParts.{count_names, found_later}
 -- how a part is skimmed, where all of them hold a replica
 abbrev Skims : Result (Replica × ℕ) PartFault → BatchName → ℕ → Replica → Type 0
 Skims r first count whole = SkimsPart {X = Replica × ℕ} (λ s. s.0) (λ s. s.1) r first count whole
+
+-- what came of one part more
+abbrev pub SkimsMore : Option (Replica × ℕ) → Result (Replica × ℕ) PartFault → BatchName → ℕ → PartForm → Type 0
+SkimsMore had result first count part = (parts : List PartForm) → IsSkimOf had first count parts → SkimsRead result first count (parts ++ part ∷ [])
 
 -- the first part
 pub first_more : (had : Option (Replica × ℕ)) (r : Result (Replica × ℕ) PartFault) (first : BatchName) (count : ℕ) (part : PartForm) → had ≡ None
@@ -47,6 +51,21 @@ module _ (skim : Replica × ℕ) (r : Result (Replica × ℕ) PartFault) (first 
 
   pub next_more : (had : Option (Replica × ℕ)) → had ≡ Some skim → SkimsMore had r first count part
   next_more had is parts so = with_one parts (subst (λ (o : Option (Replica × ℕ)). IsSkimOf o first count parts) is so)
+
+-- it is enough
+pub more_made : (r : Result (Replica × ℕ) PartFault) (had : Option (Replica × ℕ)) (first : BatchName) (count : ℕ) (part : PartForm) → SkimsMore had r first count part → IfOk r (λ next. More (IsSkimOf had first count) (IsSkimOf (Some next) first count) part)
+more_made (Ok next) had first count part more = more
+more_made (Err fault) had first count part more = tt
+
+-- or refused
+pub more_stopped : (r : Result (Replica × ℕ) PartFault) (had : Option (Replica × ℕ)) (first : BatchName) (count : ℕ) (part : PartForm) → SkimsMore had r first count part → IfErr r (λ fault. More (IsSkimOf had first count) (SkimsRead (Err fault) first count) part)
+more_stopped (Ok next) had first count part more = tt
+more_stopped (Err fault) had first count part more = more
+
+-- if memory runs out, that is told of any part
+pub more_lacking : (had : Option (Replica × ℕ)) (first : BatchName) (count : ℕ) (part : PartForm) → More (IsSkimOf had first count) (SkimsRead (Err (Refused Memory)) first count) part
+more_lacking had first count part [] so = λ whole opens. inl refl
+more_lacking had first count part (one ∷ others) so = λ whole opens. inl refl
 
 -- ---- all of them
 
@@ -90,9 +109,9 @@ all_lack refusal skim many passed names first count before after read is given =
 
 -- one of them is refused
 pub one_refused : (refusal : PartRefusal) (passed names : List (List ℕ)) (first : BatchName) (count : ℕ) (before after : List Call)
-    → StopsReading (SkimsRead (Err refusal.fault) first count) refusal (filter (is_wanted passed) names) before after → IsListed is_refusal_of_part refusal.fault → WereGiven names before after
+    → StopsReading (λ parts. SkimsRead (Err refusal.fault) first count parts × IsListed is_refusal_of_part refusal.fault) refusal (filter (is_wanted passed) names) before after → WereGiven names before after
     → IsSkimRefused refusal passed first count before after
-one_refused refusal passed names first count before after stops listed given = by stops.parts stops.found stops.named stops.counted stops.so
+one_refused refusal passed names first count before after stops given = by stops.parts stops.found stops.named stops.counted stops.so.0
   where
     by : (parts : List PartForm) → AreFound parts before after → filter (is_wanted passed) names ≡ names_of parts ++ stops.rest → length parts ≡ suc refusal.part → SkimsRead (Err refusal.fault) first count parts
         → IsSkimRefused refusal passed first count before after
@@ -107,7 +126,7 @@ one_refused refusal passed names first count before after stops listed given = b
         named = inl (stops.rest, named, count_names (part ∷ others) (suc refusal.part) counted);
         answers = so;
       };
-      listed = listed;
+      listed = stops.so.1;
     }
 
 -- none is wanted

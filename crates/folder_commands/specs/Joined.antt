@@ -1,18 +1,31 @@
 -- What parts of a folder hold together, as they were read by noted calls.
-use Rattle.std.specs.Prelude.{◌≡◌, ℕ, true, List, [], ◌∷◌, ◌++◌, reverse, Option, Some, None, Ok}
+use Rattle.std.specs.Prelude.{◌≡◌, ℕ, true, List, [], ◌∷◌, ◌++◌, length, Option, Some, None, Ok}
 use Rattle.folder_history.specs.Call.{Call}
 use Rattle.folder_history.specs.Disk.{Among}
 use Rattle.folder_history.specs.Turn.{Gave, HasRead, listing_of}
 use Rattle.replica_store.specs.Replica.{Replica}
 use Rattle.replica_commands.specs.Commands.{merged_files}
-use Rattle.folder_home.specs.Covers.{folder_parts}
+use Rattle.folder_home.specs.Covers.{folder_home}
 use Rattle.folder_home.specs.PartName.{part_name}
+use Rattle.folder_home.specs.Parts.{PartForm, IsPartRefusal, OpensParts}
+use Rattle.folder_home.specs.declared.fault.PartFault.{PartFault}
+use Rattle.folder_home.specs.declared.fault.PartRefusal.{PartRefusal}
 use Rattle.folder_commands.specs.Wanted.{is_wanted}
 
--- what was joined of the files that were taken, of which the newest is told first: nothing if there was none, and else the join of all
-abbrev pub IsJoinOf : Option Replica → List (List ℕ) → Type 0
-IsJoinOf None taken = taken ≡ []
-IsJoinOf (Some held) taken = (first : List ℕ) × (others : List (List ℕ)) × (taken ≡ reverse (first ∷ others)) × (merged_files first others ≡ Ok held)
+-- parts were opened, and this is their join
+abbrev pub AreOpened : Replica → List PartForm → Type 0
+AreOpened held [] = ⊥
+AreOpened held (part ∷ others) = OpensParts {X = Replica} (λ r. r) (Ok held) part others
+
+-- what was joined of parts that were taken: nothing if there was none, and else the join of all
+abbrev pub IsJoinedOf : Option Replica → List PartForm → Type 0
+IsJoinedOf None parts = parts ≡ []
+IsJoinedOf (Some held) parts = AreOpened held parts
+
+-- the last of some parts is at fault, and those before it were opened
+abbrev pub IsStopped : PartFault → List PartForm → Type 0
+IsStopped fault [] = ⊥
+IsStopped fault (part ∷ others) = IsPartRefusal (record { part = length others; fault = fault }) part others
 
 -- Files were read by these calls, each under the name of its bytes, and this is what they hold together; each of these names that is wanted is that of one of them.
 pub record AreRead (passed names : List (List ℕ)) (whole : Replica) (calls : List Call) : Type 0 where
@@ -20,7 +33,7 @@ pub record AreRead (passed names : List (List ℕ)) (whole : Replica) (calls : L
   pub others : List (List ℕ)
   pub made : merged_files first others ≡ Ok whole
   -- each file was read, under the name of its bytes
-  pub read : (file : List ℕ) → Among file (first ∷ others) → HasRead folder_parts file calls
+  pub read : (file : List ℕ) → Among file (first ∷ others) → HasRead folder_home file calls
   -- and under each name that is wanted there is one
   pub each : (name : List ℕ) → Among name names → is_wanted passed name ≡ true → (file : List ℕ) × (name ≡ part_name file) × Among file (first ∷ others)
 

@@ -8,7 +8,7 @@ use Rattle.folder_protocol.specs.Causes.{HasCall}
 use Rattle.folder_protocol.specs.Keeping.{Finds}
 use Rattle.folder_protocol.specs.declared.taking.Untaken.{Untaken}
 use Rattle.folder_protocol.specs.declared.taking.Untaken.TheVariants.{Refused as Refuses}
-use Rattle.folder_home.specs.Covers.{folder_parts}
+use Rattle.folder_home.specs.Covers.{folder_home}
 use Rattle.folder_home.specs.Parts.{PartForm, IsWhole}
 use Rattle.folder_home.specs.declared.fault.PartFault.TheVariants.{Refused}
 use Rattle.folder_home.specs.declared.fault.PartRefusal.{PartRefusal}
@@ -36,6 +36,10 @@ AreReadUpTo (Err refusal) read wanted =
 
 -- ---- one part after another
 
+-- what is so of the parts with one more, if this is so of those before it
+abbrev pub More : (List PartForm → Type 0) → (List PartForm → Type 0) → PartForm → Type 0
+More P Q part = (parts : List PartForm) → P parts → Q (parts ++ part ∷ [])
+
 -- The file of this name was read by one call, and this is so of it as a part.
 abbrev pub ReadsOne : List ℕ → (PartForm → Type 0) → List Call → List Call → Type 0
 ReadsOne name P before after = (bytes : List ℕ) × (after ≡ Read name (Some (Some bytes)) ∷ before) × P (record { name = name; bytes = bytes })
@@ -45,7 +49,7 @@ pub record AreReadSoFar (P : List PartForm → Type 0) (many : ℕ) (names : Lis
   pub parts : List PartForm
   pub found : AreFound parts before after
   -- no listing has begun since
-  pub since : (part : PartForm) → Among part parts → IsWhole part → HasReadSince folder_parts part.bytes after
+  pub since : (part : PartForm) → Among part parts → IsWhole part → HasReadSince folder_home part.bytes after
   pub named : names_of parts ≡ names
   pub counted : length parts ≡ many
   pub so : P parts

@@ -42,7 +42,3 @@ SkimsRead result first count (part ∷ others) =
 abbrev pub IsSkimOf : Option (Replica × ℕ) → BatchName → ℕ → List PartForm → Type 0
 IsSkimOf None first count parts = parts ≡ []
 IsSkimOf (Some skim) first count parts = SkimsRead (Ok skim) first count parts
-
--- what came of one part more
-abbrev pub SkimsMore : Option (Replica × ℕ) → Result (Replica × ℕ) PartFault → BatchName → ℕ → PartForm → Type 0
-SkimsMore had result first count part = (parts : List PartForm) → IsSkimOf had first count parts → SkimsRead result first count (parts ++ part ∷ [])

@@ -3,18 +3,24 @@
 #![tactic(auto)]
 
 mod forgetting;
-mod joiner;
+mod gathering;
+mod joining;
+mod laws;
 mod packing;
 mod reading;
+mod reliance;
+mod relying;
 mod replacing;
 mod skimming;
 mod sweeping;
-mod taken;
 mod wanted;
 
 pub use forgetting::{Forgot, forget, left_of};
+pub use laws::answered_laws;
 pub use packing::{file_of, pack};
 pub use reading::{Read, read_folder, read_named};
+pub use reliance::Reliance;
+pub use relying::{keep_and_put, keep_and_put_judged};
 pub use replacing::{Replaced, names_for};
 pub use skimming::{Skimmed, skim_folder};
 pub use sweeping::sweep;

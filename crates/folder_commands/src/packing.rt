@@ -1,13 +1,17 @@
 //! A pack: parts are read and joined, and their join is put in their place.
 ghost use Rattle.std.specs.Prelude.{◌≡◌, [], true, Ok, None, map, string_bytes, IfOk, IfErr, IfSome};
+ghost use Rattle.folder_history.specs.Call.{lock_of};
+ghost use Rattle.table_model.specs.declared.refusal.Refusal.TheVariants.{Memory};
 ghost use Rattle.folder_history.specs.Parts.{IsNoPart};
 ghost use Rattle.folder_protocol.specs.Goes.{GoesInTurn};
 ghost use Rattle.folder_protocol.specs.Taking.{UntakenCause};
 ghost use Rattle.folder_protocol.specs.Temporary.{is_temporary};
 ghost use Rattle.replica_reading.specs.Held.{held_in};
 ghost use Rattle.replica_commands.specs.Commands.{file_of, as_held};
-ghost use Rattle.folder_home.specs.Covers.{folder_parts};
+ghost use Rattle.folder_home.specs.Covers.{folder_home};
 ghost use Rattle.folder_commands.specs.Joined.{AreUnwanted};
+ghost use Rattle.folder_commands.specs.ReadParts.{IfRefused};
+ghost use Rattle.folder_commands.specs.Refusals.{IsReadRefused};
 ghost use Rattle.folder_commands.specs.Replacing.{Packs};
 
 use crate::reading::{read_named, refused};
@@ -23,6 +27,7 @@ use table_model::{Counted, Refusal};
 pub fn file_of(alloc: Global, store: Store) -> Result<Vec<u8>, Refusal>
     ensures file { IfOk result (λ bytes. bytes.items ≡ file_of store.replica) }
     ensures read { IfOk result (λ bytes. held_in (file_of store.replica) ≡ Ok (as_held store.replica)) }
+    ensures refused { IfErr result (λ e. e ≡ Memory) }
 {
     let mut writer = Counted::new(Vec::new(alloc));
     match write_changed(alloc, &store, true, &mut writer) {
@@ -40,15 +45,19 @@ pub fn pack<F: Folder>(
     names: &[String],
 ) -> Result<Option<Replaced>, Untaken<PartRefusal>>
     // Each call is in turn, whatever the folder answers.
-    ensures in_turn { IsNoPart folder_parts temporary.now → GoesInTurn folder_parts (F.history folder.old) (F.history folder.new) }
+    ensures in_turn { IsNoPart folder_home temporary.now → GoesInTurn folder_home (F.history folder.old) (F.history folder.new) }
     // So it is with the name of a temporary, which is no part's.
-    ensures in_turn_named { is_temporary temporary.now ≡ true → GoesInTurn folder_parts (F.history folder.old) (F.history folder.new) }
+    ensures in_turn_named { is_temporary temporary.now ≡ true → GoesInTurn folder_home (F.history folder.old) (F.history folder.new) }
     // What is put is what the parts hold that were read, and these are removed.
     ensures packed { IfOk result (λ answer. IfSome answer (λ done. Packs (map string_bytes names.now) (string_bytes done.name) (map string_bytes done.gone.items) done.outcome (F.history folder.old) (F.history folder.new))) }
     // None if no name is a part's.
     ensures none { IfOk result (λ answer. answer ≡ None → AreUnwanted [] (map string_bytes names.now)) }
+    // A part that is refused is at fault, or memory ran out.
+    ensures refused { IfErr result (λ fault. IfRefused fault (λ refusal. IsReadRefused refusal [] (map string_bytes names.now) (F.history folder.old) (F.history folder.new))) }
     // An error has its cause: a part that was gone, a call that failed, or a part that is refused.
     ensures cause { IfErr result (λ fault. UntakenCause fault (F.history folder.old) (F.history folder.new)) }
+    // It leaves no lock.
+    ensures unlocked { lock_of (F.history folder.old) ≡ None → lock_of (F.history folder.new) ≡ None }
 {
     let store = match read_named(alloc, folder, &[], names) {
         Ok(Some(store)) => store,

@@ -1,10 +1,13 @@
 //! How a part is put in the place of those that were read to make it.
-ghost use Rattle.std.specs.Prelude.{◌≡◌, map, filter, string_bytes, IfOk, IfErr};
+ghost use Rattle.std.specs.Prelude.{◌≡◌, None, map, filter, string_bytes, IfOk, IfErr};
+ghost use Rattle.folder_history.specs.Call.{lock_of};
 ghost use Rattle.folder_history.specs.Parts.{IsNoPart};
 ghost use Rattle.folder_protocol.specs.Goes.{GoesInTurn};
 ghost use Rattle.folder_protocol.specs.Taking.{UntakenCause};
-ghost use Rattle.folder_home.specs.Covers.{folder_parts};
+ghost use Rattle.folder_home.specs.Covers.{folder_home};
 ghost use Rattle.folder_home.specs.PartName.{part_name};
+ghost use Rattle.folder_commands.specs.ReadParts.{IfRefused};
+ghost use Rattle.folder_commands.specs.Refusals.{LacksMemory};
 ghost use Rattle.folder_commands.specs.Replacing.{AreCoveredBy, Replaces};
 ghost use Rattle.folder_commands.specs.Wanted.{goes};
 
@@ -52,10 +55,13 @@ pub(crate) fn replace_read<F: Folder>(
     bytes: &[u8],
 ) -> Result<Replaced, Untaken<PartRefusal>>
     // Each call is in turn.
-    ensures in_turn { IsNoPart folder_parts temporary.now → AreCoveredBy (map string_bytes passed.now) (map string_bytes names.now) bytes.now (F.history folder.old) → GoesInTurn folder_parts (F.history folder.old) (F.history folder.new) }
+    ensures in_turn { IsNoPart folder_home temporary.now → AreCoveredBy (map string_bytes passed.now) (map string_bytes names.now) bytes.now (F.history folder.old) → GoesInTurn folder_home (F.history folder.old) (F.history folder.new) }
     // The part is named by its bytes, and those that are wanted go, but for itself.
     ensures replaces { IfOk result (λ done. Replaces (map string_bytes passed.now) (map string_bytes names.now) bytes.now (string_bytes done.name) (map string_bytes done.gone.items) done.outcome (F.history folder.old) (F.history folder.new)) }
+    ensures refused { IfErr result (λ fault. IfRefused fault LacksMemory) }
     ensures cause { IfErr result (λ fault. UntakenCause fault (F.history folder.old) (F.history folder.new)) }
+    // It leaves no lock.
+    ensures unlocked { lock_of (F.history folder.old) ≡ None → lock_of (F.history folder.new) ≡ None }
 {
     let (name, gone) = match names_for(alloc, passed, names, bytes) {
         Ok(both) => both,

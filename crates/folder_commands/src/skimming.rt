@@ -1,17 +1,20 @@
 //! What of a folder's parts is read for a load under given names.
-ghost use Rattle.std.specs.Prelude.{◌≡◌, List, ℕ, Ok, Err, None, map, filter, string_bytes, IfOk, IfErr, IfSome, OnOk};
+ghost use Rattle.std.specs.Prelude.{◌≡◌, List, ℕ, Ok, Err, Some, None, map, filter, string_bytes, IfOk, IfErr, IfSome};
 ghost use Rattle.folder_history.specs.Turn.{Gave, listing_of};
 ghost use Rattle.folder_protocol.specs.Goes.{GoesInTurn};
 ghost use Rattle.folder_protocol.specs.Taking.{UntakenCause};
-ghost use Rattle.folder_home.specs.Covers.{folder_parts};
+ghost use Rattle.folder_home.specs.Covers.{folder_home};
 ghost use Rattle.folder_home.specs.PartReads.{IsListed, is_refusal_of_part};
 ghost use Rattle.folder_commands.specs.Joined.{AreUnwanted, WereGiven};
-ghost use Rattle.folder_commands.specs.ReadParts.{IfRefused, ReadsOne, AreReadSoFar, StopsReading};
-ghost use Rattle.folder_commands.specs.Skims.{AreSkimmed, IsSkimRefused, IsSkimOf, SkimsMore, SkimsRead};
+ghost use Rattle.folder_commands.specs.ReadParts.{IfRefused, More};
+ghost use Rattle.folder_commands.specs.Relying.{AreReadRelied, AreRelied};
+ghost use Rattle.folder_commands.specs.Skims.{AreSkimmed, IsSkimRefused, IsSkimOf, SkimsRead};
+ghost use Rattle.folder_commands.specs.declared.reliance.Reliance.TheVariants.{Load};
 ghost use Rattle.folder_commands.specs.Wanted.{is_wanted};
 
+use crate::gathering::{Gathers, gather_each};
 use crate::reading::refused;
-use crate::wanted::is_wanted;
+use crate::reliance::Reliance;
 use folder_home::{LoadNames, PartFault, PartRefusal, Skim, SkimmedParts};
 use folder_protocol::{Folder, Untaken, list_names};
 use std::alloc::Global;
@@ -23,6 +26,15 @@ pub struct Skimmed {
     pub names: Vec<String>,
     /// What was read of its parts.
     pub held: SkimmedParts,
+    /// The names of those that have a batch of one of the load's names.
+    pub relied: Vec<String>,
+}
+
+/// What was read of the parts so far, if there are any, and the names of those that have a batch of one of the load's names.
+#[derive(Drop)]
+struct Skimming {
+    skim: Option<Skim>,
+    relied: Vec<String>,
 }
 
 /// What was read of parts, with what is read of one more.
@@ -33,7 +45,8 @@ fn skim_more(
     bytes: &[u8],
     names: LoadNames,
 ) -> Result<Skim, PartFault>
-    ensures skimmed { SkimsMore had result names.first names.count (record { name = name.now; bytes = bytes.now }) }
+    ensures made { IfOk result (λ next. More (IsSkimOf had names.first names.count) (IsSkimOf (Some next) names.first names.count) (record { name = name.now; bytes = bytes.now })) }
+    ensures stopped { IfErr result (λ fault. More (IsSkimOf had names.first names.count) (SkimsRead (Err fault) names.first names.count) (record { name = name.now; bytes = bytes.now })) }
     ensures listed { IfErr result (λ fault. IsListed is_refusal_of_part fault) }
 {
     match had {
@@ -42,60 +55,29 @@ fn skim_more(
     }
 }
 
-/// The same once the part of this name is read. Its place is told if it is refused.
-fn skim_one<F: Folder>(
-    alloc: Global,
-    folder: &mut F,
-    had: Option<Skim>,
-    place: usize,
-    name: &str,
-    names: LoadNames,
-) -> Result<Skim, Untaken<PartRefusal>>
-    ensures in_turn { GoesInTurn folder_parts (F.history folder.old) (F.history folder.new) }
-    ensures listing { listing_of (F.history folder.new) ≡ listing_of (F.history folder.old) }
-    ensures one { IfOk result (λ next. ReadsOne name.now (SkimsMore had (Ok next) names.first names.count) (F.history folder.old) (F.history folder.new)) }
-    ensures refused { IfErr result (λ fault. IfRefused fault (λ refusal. (refusal.part ≡ place) × ReadsOne name.now (SkimsMore had (Err refusal.fault) names.first names.count) (F.history folder.old) (F.history folder.new) × IsListed is_refusal_of_part refusal.fault)) }
-    ensures cause { IfErr result (λ fault. UntakenCause fault (F.history folder.old) (F.history folder.new)) }
-{
-    match folder.read(alloc, name) {
-        Ok(Some(bytes)) => match skim_more(alloc, had, name, bytes.as_slice(), names) {
-            Ok(next) => Ok(next),
-            Err(fault) => Err(Untaken::Refused(PartRefusal { part: place, fault })),
-        },
-        Ok(None) => Err(Untaken::Gone),
-        Err(error) => Err(Untaken::Failed(error)),
-    }
-}
+impl Gathers for Skimming {
+    type Way = LoadNames;
 
-/// What is read of the parts of those names that are wanted, one after another. None if none is.
-fn skim_each<F: Folder>(
-    alloc: Global,
-    folder: &mut F,
-    passed: &[String],
-    listed: &[String],
-    names: LoadNames,
-) -> Result<Option<Skim>, Untaken<PartRefusal>>
-    ensures in_turn { GoesInTurn folder_parts (F.history folder.old) (F.history folder.new) }
-    ensures listing { listing_of (F.history folder.new) ≡ listing_of (F.history folder.old) }
-    ensures read { IfOk result (λ answer. (many : ℕ) × AreReadSoFar (IsSkimOf answer names.first names.count) many (filter (is_wanted (map string_bytes passed.now)) (map string_bytes listed.now)) (F.history folder.old) (F.history folder.new)) }
-    ensures refused { IfErr result (λ fault. IfRefused fault (λ refusal. StopsReading (SkimsRead (Err refusal.fault) names.first names.count) refusal (filter (is_wanted (map string_bytes passed.now)) (map string_bytes listed.now)) (F.history folder.old) (F.history folder.new) × IsListed is_refusal_of_part refusal.fault)) }
-    ensures cause { IfErr result (λ fault. UntakenCause fault (F.history folder.old) (F.history folder.new)) }
-{
-    let mut skim = None;
-    let mut count = 0;
-    for index in 0..listed.len() {
-        let name = listed[index].as_str();
-        if is_wanted(passed, name) {
-            match skim_one(alloc, folder, skim, count, name, names) {
-                Ok(next) => {
-                    skim = Some(next);
-                    count += 1;
-                }
-                Err(fault) => return Err(fault),
-            }
-        }
+    ghost made_of = { λ names made parts. IsSkimOf made.skim names.first names.count parts × AreRelied (Load names) (map string_bytes made.relied.items) parts };
+
+    ghost stops = { λ names fault parts. SkimsRead (Err fault) names.first names.count parts × IsListed is_refusal_of_part fault };
+
+    /// Refused are what [`Skim::new`] refuses of the first part, and what [`Skim::with_part`] refuses of a further one.
+    fn with(
+        self,
+        alloc: Global,
+        way: &LoadNames,
+        name: &str,
+        bytes: &[u8],
+    ) -> Result<Skimming, PartFault> {
+        let Skimming { skim, relied } = self;
+        let next = skim_more(alloc, skim, name, bytes, *way)?;
+        let relied = Reliance::Load(*way).with(alloc, relied, name, bytes)?;
+        Ok(Skimming {
+            skim: Some(next),
+            relied,
+        })
     }
-    Ok(skim)
 }
 
 /// What loads are answered from once the parts of those names that are wanted are read. None if none is.
@@ -105,21 +87,30 @@ fn skim_named<F: Folder>(
     passed: &[String],
     listed: &[String],
     names: LoadNames,
-) -> Result<Option<SkimmedParts>, Untaken<PartRefusal>>
-    ensures in_turn { GoesInTurn folder_parts (F.history folder.old) (F.history folder.new) }
+) -> Result<Option<(SkimmedParts, Vec<String>)>, Untaken<PartRefusal>>
+    ensures in_turn { GoesInTurn folder_home (F.history folder.old) (F.history folder.new) }
     ensures listing { listing_of (F.history folder.new) ≡ listing_of (F.history folder.old) }
-    ensures answers { IfOk result (λ answer. IfSome answer (λ parts. AreSkimmed (λ p. p.held.replica) (λ p. p.batches) (Ok parts) (map string_bytes passed.now) (map string_bytes listed.now) names.first names.count (F.history folder.old) (F.history folder.new))) }
+    ensures answers { IfOk result (λ answer. IfSome answer (λ both. AreSkimmed (λ p. p.held.replica) (λ p. p.batches) (Ok both.0) (map string_bytes passed.now) (map string_bytes listed.now) names.first names.count (F.history folder.old) (F.history folder.new))) }
+    ensures relied { IfOk result (λ answer. IfSome answer (λ both. AreReadRelied (Load names) (map string_bytes both.1.items) (filter (is_wanted (map string_bytes passed.now)) (map string_bytes listed.now)) (F.history folder.old) (F.history folder.new))) }
     ensures refused { (given : List (List ℕ)) → listing_of (F.history folder.old) ≡ Gave given → given ≡ map string_bytes listed.now → IfErr result (λ fault. IfRefused fault (λ refusal. IsSkimRefused refusal (map string_bytes passed.now) names.first names.count (F.history folder.old) (F.history folder.new))) }
     ensures none { IfOk result (λ answer. answer ≡ None → AreUnwanted (map string_bytes passed.now) (map string_bytes listed.now)) }
     ensures cause { IfErr result (λ fault. UntakenCause fault (F.history folder.old) (F.history folder.new)) }
 {
-    let skim = match skim_each(alloc, folder, passed, listed, names) {
-        Ok(Some(skim)) => skim,
-        Ok(None) => return Ok(None),
+    let start = Skimming {
+        skim: None,
+        relied: Vec::new(alloc),
+    };
+    let Skimming { skim, relied } = match gather_each(
+        alloc, folder, passed, listed, &names, start,
+    ) {
+        Ok(skimming) => skimming,
         Err(fault) => return Err(fault),
     };
+    let Some(skim) = skim else {
+        return Ok(None);
+    };
     match skim.into_parts(alloc) {
-        Ok(parts) => Ok(Some(parts)),
+        Ok(parts) => Ok(Some((parts, relied))),
         Err(refusal) => Err(refused(refusal)),
     }
 }
@@ -138,11 +129,13 @@ pub fn skim_folder<F: Folder>(
     names: LoadNames,
 ) -> Result<Option<Skimmed>, Untaken<PartRefusal>>
     // Each call is in turn.
-    ensures in_turn { GoesInTurn folder_parts (F.history folder.old) (F.history folder.new) }
+    ensures in_turn { GoesInTurn folder_home (F.history folder.old) (F.history folder.new) }
     // Its names are those that a listing gave.
     ensures listed { IfOk result (λ answer. IfSome answer (λ s. WereGiven (map string_bytes s.names.items) (F.history folder.old) (F.history folder.new))) }
     // Each part that is wanted was read, and if these are whole, loads are answered as from all of them.
     ensures answers { IfOk result (λ answer. IfSome answer (λ s. AreSkimmed (λ p. p.held.replica) (λ p. p.batches) (Ok s.held) (map string_bytes passed.now) (map string_bytes s.names.items) names.first names.count (F.history folder.old) (F.history folder.new))) }
+    // Of each part that was read and has a batch of one of the names, the name is among those that are told.
+    ensures relied { IfOk result (λ answer. IfSome answer (λ s. AreReadRelied (Load names) (map string_bytes s.relied.items) (filter (is_wanted (map string_bytes passed.now)) (map string_bytes s.names.items)) (F.history folder.old) (F.history folder.new))) }
     // If a part is refused, those up to it were read; if these are whole, memory ran out.
     ensures refused { IfErr result (λ fault. IfRefused fault (λ refusal. IsSkimRefused refusal (map string_bytes passed.now) names.first names.count (F.history folder.old) (F.history folder.new))) }
     // None if a listing gave no part's name, but for those that are passed over.
@@ -155,9 +148,10 @@ pub fn skim_folder<F: Folder>(
         Err(error) => return Err(Untaken::Failed(error)),
     };
     match skim_named(alloc, folder, passed, listed.as_slice(), names) {
-        Ok(Some(held)) => Ok(Some(Skimmed {
+        Ok(Some((held, relied))) => Ok(Some(Skimmed {
             names: listed,
             held,
+            relied,
         })),
         Ok(None) => Ok(None),
         Err(fault) => Err(fault),

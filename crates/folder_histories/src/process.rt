@@ -29,6 +29,8 @@ pub struct Process {
     /// The file that is open, by its number, and whether no write or sync of it has failed.
     pub open: Option<usize>,
     pub is_clean: bool,
+    /// Whether no sync of the folder has failed since it began: after one it makes none, and counts each as failed.
+    pub settles: bool,
     pub lock: Option<Lock>,
     pub listing: Option<Listing>,
     /// The claims that were answered before its last listing began.
@@ -44,6 +46,7 @@ impl Process {
             told: Vec::new(alloc),
             open: None,
             is_clean: false,
+            settles: true,
             lock: None,
             listing: None,
             known: Vec::new(alloc),
@@ -69,6 +72,7 @@ impl Process {
         self.told.clear();
         self.open = None;
         self.is_clean = false;
+        self.settles = true;
         self.lock = None;
         self.listing = None;
         self.known.clear();

@@ -205,7 +205,7 @@ impl World {
                 Ok(Some(link(&mut self.disk, from.as_str(), to.as_str(), fate)?))
             }
             Request::Remove { name } => Ok(Some(self.remove(name.as_str(), fate)?)),
-            Request::Settle => Ok(Some(settle(&mut self.disk, fate))),
+            Request::Settle => Ok(Some(settle(&mut self.disk, &mut self.first, fate))),
             Request::Lock | Request::LockShared => {
                 Ok(lock(&mut self.first, self.second.lock, request, fate))
             }
@@ -473,9 +473,10 @@ fn is_in(parts: &[Vec<u8>], claim: u8) -> bool {
     parts.iter().any(|part| holds(part.as_slice(), claim))
 }
 
-/// The folder is synced.
-fn settle(disk: &mut Disk, fate: Fate) -> Answer {
-    if fate != Fate::Succeeds {
+/// The folder is synced, unless a sync of it by this process has failed before.
+fn settle(disk: &mut Disk, process: &mut Process, fate: Fate) -> Answer {
+    if fate != Fate::Succeeds || !process.settles {
+        process.settles = false;
         return Answer::Failed;
     }
     disk.settle();

@@ -1,10 +1,10 @@
 -- A folder keeps what it was answered.
-use Rattle.std.proofs.Common.{◌≡◌, inl, inr, ℕ, List, [], ◌∷◌, sym, subst}
+use Rattle.std.proofs.Common.{◌≡◌, inl, inr, List, [], ◌∷◌, sym, subst}
 use Rattle.folder_history.specs.Parts.{Parts, IsSafe}
 use Rattle.folder_history.specs.World.{World}
 use Rattle.folder_history.specs.Run.{Event, Run, AtSome, HasPut}
 use Rattle.folder_history.specs.Folders.{FoldersKeep}
-use Rattle.folder_history.proofs.Runs.{folder_history_laws}
+use Rattle.folder_history.proofs.All.{folder_model_laws}
 
 at_some : (P Q : World → Type 0) → ((w : World) → P w → Q w) → (parts : Parts) (events : List Event) (d e : World) (run : Run parts events d e) → AtSome P parts events d e run → AtSome Q parts events d e run
 at_some P Q f parts [] d e run h = f e h
@@ -17,7 +17,7 @@ at_end P parts (event ∷ earlier) d e run h = inl h
 
 pub folders_keep : FoldersKeep
 folders_keep parts =
-    let laws = folder_history_laws in
+    let laws = folder_model_laws in
     record {
       stays = λ m n c later safe. laws.safe parts n.events n.first n.now n.run n.fair c
           (at_some (λ (w : World). w ≡ m.now) (λ (w : World). IsSafe parts w.disk c) (λ w is. subst (λ (v : World). IsSafe parts v.disk c) (sym is) safe) parts n.events n.first n.now n.run later);

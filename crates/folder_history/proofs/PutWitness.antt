@@ -10,10 +10,10 @@ use Rattle.folder_history.specs.Run.{Event, By, Run}
 use Rattle.folder_history.specs.Laws.{IsFair}
 use Rattle.folder_history.proofs.Basics.{same_bytes, other_bytes, some_none}
 use Rattle.folder_history.proofs.Wrong.{calls_with, with_others}
-use Rattle.folder_history.proofs.Runs.{folder_history_laws}
+use Rattle.folder_history.proofs.All.{folder_model_laws}
 
 -- a part's name is its bytes with a one before them; it covers all
-abbrev parts : Parts
+abbrev pub parts : Parts
 parts = record { name_of = λ b. 1 ∷ b; covers = λ b a. true }
 
 abbrev bytes : List ℕ
@@ -29,10 +29,10 @@ no_part : IsNoPart parts temp
 no_part b is = cc
 
 -- one name changes
-abbrev led : List ℕ → Option ℕ → Disk → Disk
+abbrev pub led : List ℕ → Option ℕ → Disk → Disk
 led n entry d = record d { names = λ m. if bytes_eq m n then entry else d.names m; earlier = λ m. if bytes_eq m n then d.names n ∷ d.earlier n else d.earlier m }
 
-led_leads : (n : List ℕ) (entry : Option ℕ) (d : Disk) → Leads n entry d (led n entry d)
+pub led_leads : (n : List ℕ) (entry : Option ℕ) (d : Disk) → Leads n entry d (led n entry d)
 led_leads n entry d = record {
   own = cond-true _ entry (d.names n) (same_bytes n);
   before = cond-true _ (d.names n ∷ d.earlier n) (d.earlier n) (same_bytes n);
@@ -42,10 +42,10 @@ led_leads n entry d = record {
   synced = λ f. refl;
 }
 
-abbrev empty : Disk
+abbrev pub empty : Disk
 empty = record { names = λ n. None; earlier = λ n. []; contents = λ f. []; is_synced = λ f. false }
 
-abbrev w0 : World
+abbrev pub w0 : World
 w0 = record { disk = empty; drawn = []; mine = λ p. 0; began = λ p. empty; gone = λ p. []; calls = λ p. [] }
 
 abbrev w1 : World
@@ -66,7 +66,7 @@ w5 = record w4 { disk = led temp None w4.disk; gone = λ p. temp ∷ w4.gone p; 
 abbrev w6 : World
 w6 = record w5 { disk = record w5.disk { earlier = λ n. [] }; calls = calls_with 0 (Settled true) w5 }
 
-stays : (d e : World) → e.drawn ≡ d.drawn → ((p : ℕ) → e.mine p ≡ d.mine p) → ((p : ℕ) → e.began p ≡ d.began p) → ((p : ℕ) → e.gone p ≡ d.gone p) → Stays d e
+pub stays : (d e : World) → e.drawn ≡ d.drawn → ((p : ℕ) → e.mine p ≡ d.mine p) → ((p : ℕ) → e.began p ≡ d.began p) → ((p : ℕ) → e.gone p ≡ d.gone p) → Stays d e
 stays d e drawn mine began gone = record { drawn = drawn; open_files = mine; lists = record { began = began; gone = gone } }
 
 makes : Makes 0 temp w0 w1
@@ -126,10 +126,10 @@ puts = (
     ),
     record { in_turn = inl no_part; does = removed; notes = record { own = refl; others = λ p ne. with_others 0 (Removed temp true) w4 p ne } },
   ),
-  record { in_turn = tt; does = (settles, stays w5 w6 refl (λ p. refl) (λ p. refl) (λ p. refl)); notes = record { own = refl; others = λ p ne. with_others 0 (Settled true) w5 p ne } },
+  record { in_turn = refl; does = inl (refl, settles, stays w5 w6 refl (λ p. refl) (λ p. refl) (λ p. refl)); notes = record { own = refl; others = λ p ne. with_others 0 (Settled true) w5 p ne } },
 )
 
-same_name : (a b : List ℕ) → 1 ∷ a ≡ 1 ∷ b → a ≡ b
+pub same_name : (a b : List ℕ) → 1 ∷ a ≡ 1 ∷ b → a ≡ b
 same_name a b is = cc
 
 pub fair : IsFair parts events w0 w6 puts
@@ -137,4 +137,4 @@ fair = record { order = record { itself = λ a. refl; along = λ c b a x y. refl
 
 -- so these bytes are safe, by the laws
 pub put_safe : IsSafe parts w6.disk bytes
-put_safe = folder_history_laws.put parts events w0 w6 puts fair bytes (inl (0, inl (inl refl)))
+put_safe = folder_model_laws.put parts events w0 w6 puts fair bytes (inl (0, inl (inl refl)))

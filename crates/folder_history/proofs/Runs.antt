@@ -6,26 +6,32 @@ use Rattle.folder_history.specs.Parts.{Parts, IsOrder, IsThere, IsHeld, IsSafe}
 use Rattle.folder_history.specs.Turn.{Stage, Placed, Whole, stage_of, WasSynced, IsKept, HasRead, HasReadSince, HasReadAll, InTurn, AllInTurn, Unlisted, Gave, Listing, listing_of, listing_after}
 use Rattle.folder_history.specs.World.{World, Does}
 use Rattle.folder_history.specs.Run.{Event, By, Comes, Leaves, Ends, PowerLost, Calls, Run, FreeRun, KeepsTurn, AtSome, SinceLoss, BeforeListing, HasPut, IsQuiet}
-use Rattle.folder_history.specs.Laws.{IsFair, SafeIsHeld, SettledIsSafe, FolderHistoryLaws}
+use Rattle.folder_history.specs.Laws.{IsFair, SafeIsHeld, SettledIsSafe}
 use Rattle.folder_history.proofs.Disks.{on_disk_covered}
 use Rattle.folder_history.proofs.Basics.{numbers_same}
 use Rattle.folder_history.proofs.Means.{Means, ListMeans, WholeMeans, GuardedMeans, GaveMeans, Sound}
+use Rattle.folder_history.proofs.Effects.{settles_now}
 use Rattle.folder_history.proofs.Steps.{step, step_held, quiet_sound}
 
 settled_may : (d e : Disk) → Settles d e → (name : List ℕ) (entry : Option ℕ) → MayLead e name entry → entry ≡ d.names name
 settled_may d e settles name entry (inl is) = is ∙ settles.names name
 settled_may d e settles name entry (inr among) = absurd (subst (λ (x : List (Option ℕ)). Among entry x) (settles.earlier name) among)
 
-settled : SettledIsSafe
+pub settled : SettledIsSafe
 settled parts d e settles b (part, file, at, holds, synced, covers) = λ names may.
     (part, file, settled_may d e settles (parts.name_of part) (names (parts.name_of part)) (may (parts.name_of part)) ∙ at, settles.contents file ∙ holds, settles.synced file ∙ synced, covers)
+
+-- the call begins no listing
+abbrev pub NotBegan : Call → Type 0
+NotBegan Began = ⊥
+NotBegan call = Unit {0}
 
 module _ (parts : Parts) (order : IsOrder parts) (Known : List ℕ → Type 0) (distinct : (a b : List ℕ) → Known a → Known b → parts.name_of a ≡ parts.name_of b → a ≡ b) where
   at_end : (P : World → Type 0) (events : List Event) (d e : World) (run : Run parts events d e) → P e → AtSome P parts events d e run
   at_end P [] d e run p = p
   at_end P (event ∷ earlier) d e run p = inl p
 
-  sound_run : (events : List Event) (d e : World) (run : Run parts events d e) → IsQuiet d
+  pub sound_run : (events : List Event) (d e : World) (run : Run parts events d e) → IsQuiet d
       → ((b : List ℕ) → AtSome (λ w. IsThere parts w.disk b) parts events d e run → Known b) → Sound parts Known e
   sound_run [] d e run quiet known = quiet_sound parts order Known distinct e (λ p. ap (λ (w : World). w.calls p) run ∙ quiet p)
   sound_run (event ∷ earlier) d e (v, run, happens) quiet known =
@@ -33,7 +39,7 @@ module _ (parts : Parts) (order : IsOrder parts) (Known : List ℕ → Type 0) (
       let there : (b : List ℕ) → IsThere parts v.disk b → Known b = λ b t. known b (inr (at_end (λ w. IsThere parts w.disk b) earlier d v run t)) in
       (step parts order Known distinct event v e before there happens).sound
 
-  safe_run : (events : List Event) (d e : World) (run : Run parts events d e) → IsQuiet d
+  pub safe_run : (events : List Event) (d e : World) (run : Run parts events d e) → IsQuiet d
       → ((b : List ℕ) → AtSome (λ w. IsThere parts w.disk b) parts events d e run → Known b)
       → (b : List ℕ) → AtSome (λ w. IsSafe parts w.disk b) parts events d e run → IsSafe parts e.disk b
   safe_run [] d e run quiet known b safe = safe
@@ -43,7 +49,7 @@ module _ (parts : Parts) (order : IsOrder parts) (Known : List ℕ → Type 0) (
       let there : (x : List ℕ) → IsThere parts v.disk x → Known x = λ x t. known x (inr (at_end (λ w. IsThere parts w.disk x) earlier d v run t)) in
       (step parts order Known distinct event v e before there happens).safe b (safe_run earlier d v run quiet (λ x t. known x (inr t)) b at)
 
-  held_run : (events : List Event) (d e : World) (run : Run parts events d e) → IsQuiet d
+  pub held_run : (events : List Event) (d e : World) (run : Run parts events d e) → IsQuiet d
       → ((b : List ℕ) → AtSome (λ w. IsThere parts w.disk b) parts events d e run → Known b)
       → (b : List ℕ) → SinceLoss (λ w. IsHeld parts w.disk b) parts events d e run → IsHeld parts e.disk b
   held_run [] d e run quiet known b held = held
@@ -90,8 +96,8 @@ module _ (parts : Parts) (order : IsOrder parts) (Known : List ℕ → Type 0) (
   kept_before (Read name answer) calls b is = inr is
   kept_before (Looked name ok) calls b is = inr is
 
-  settles_safe : (call : Call) (q : ℕ) (v e : World) (b : List ℕ) → call ≡ Settled true → Does q call v e → IsHeld parts v.disk b → IsSafe parts e.disk b
-  settles_safe call q v e b is does held = let d : Does q (Settled true) v e = subst (λ (c : Call). Does q c v e) is does in settled parts v.disk e.disk d.0 b held
+  settles_safe : (call : Call) (q : ℕ) (v e : World) (b : List ℕ) → call ≡ Settled true → InTurn parts (v.calls q) call → Does q call v e → IsHeld parts v.disk b → IsSafe parts e.disk b
+  settles_safe call q v e b is turn does held = settled parts v.disk e.disk (settles_now parts q v e (subst (λ (c : Call). InTurn parts (v.calls q) c) is turn) (subst (λ (c : Call). Does q c v e) is does)).0 b held
 
   -- a process that has made one call more
   keeps_call : (q : ℕ) (call : Call) (v e : World) (b : List ℕ) → Sound parts Known e → Calls parts q call v e → (IsHeld parts v.disk b → IsHeld parts e.disk b) → (IsSafe parts v.disk b → IsSafe parts e.disk b) → Keeps q v b → Keeps q e b
@@ -104,7 +110,7 @@ module _ (parts : Parts) (order : IsOrder parts) (Known : List ℕ → Type 0) (
         (λ earlier. held (keeps.synced earlier))
         (subst (λ (l : List Call). WasSynced parts b l) happens.notes.own was);
     kept = λ is. ⊎_elim
-        (λ (settles : (call ≡ Settled true) × WasSynced parts b (v.calls q)). settles_safe call q v e b settles.0 happens.does (keeps.synced settles.1))
+        (λ (settles : (call ≡ Settled true) × WasSynced parts b (v.calls q)). settles_safe call q v e b settles.0 happens.in_turn happens.does (keeps.synced settles.1))
         (λ earlier. safe (keeps.kept earlier))
         (kept_before call (v.calls q) b (subst (λ (l : List Call). IsKept parts b l) happens.notes.own is));
   }
@@ -161,7 +167,7 @@ module _ (parts : Parts) (order : IsOrder parts) (Known : List ℕ → Type 0) (
   put_run (event ∷ earlier) d e run quiet known b (inl put) = inl (put_at e (sound_run (event ∷ earlier) d e run quiet known) b (λ p. keeps_run (event ∷ earlier) d e run quiet known p b) put)
   put_run (event ∷ earlier) d e (v, run, happens) quiet known b (inr at) = inr (put_run earlier d v run quiet (λ x t. known x (inr t)) b at)
 
-  put_listing : (p : ℕ) (events : List Event) (d e : World) (run : Run parts events d e) → IsQuiet d
+  pub put_listing : (p : ℕ) (events : List Event) (d e : World) (run : Run parts events d e) → IsQuiet d
       → ((b : List ℕ) → AtSome (λ w. IsThere parts w.disk b) parts events d e run → Known b)
       → (b : List ℕ) → BeforeListing (HasPut parts b) p parts events d e run → BeforeListing (λ w. IsSafe parts w.disk b) p parts events d e run
   put_listing p [] d e run quiet known b at = absurd at
@@ -170,10 +176,6 @@ module _ (parts : Parts) (order : IsOrder parts) (Known : List ℕ → Type 0) (
   put_listing p (event ∷ earlier) d e (v, run, happens) quiet known b at = put_listing p earlier d v run quiet (λ x t. known x (inr t)) b at
 
   -- ---- the last listing
-
-  abbrev NotBegan : Call → Type 0
-  NotBegan Began = ⊥
-  NotBegan call = Unit {0}
 
   still_unlisted : (call : Call) → NotBegan call → listing_after call Unlisted ≡ Unlisted
   still_unlisted (Made name ok) not = refl
@@ -190,7 +192,7 @@ module _ (parts : Parts) (order : IsOrder parts) (Known : List ℕ → Type 0) (
   still_unlisted (Read name answer) not = refl
   still_unlisted (Looked name ok) not = refl
 
-  same_began : (q : ℕ) (call : Call) (d e : World) → NotBegan call → Does q call d e → (p : ℕ) → e.began p ≡ d.began p
+  pub same_began : (q : ℕ) (call : Call) (d e : World) → NotBegan call → Does q call d e → (p : ℕ) → e.began p ≡ d.began p
   same_began q (Made name true) d e not does p = does.lists.began p
   same_began q (Made name false) d e not does p = does.lists.began p
   same_began q (Wrote bytes true) d e not does p = does.1.lists.began p
@@ -204,7 +206,8 @@ module _ (parts : Parts) (order : IsOrder parts) (Known : List ℕ → Type 0) (
   same_began q (Removed name true) d e not does p = does.lists.began p
   same_began q (Removed name false) d e not (inl does) p = does.lists.began p
   same_began q (Removed name false) d e not (inr does) p = does.1.lists.began p
-  same_began q (Settled true) d e not does p = does.1.lists.began p
+  same_began q (Settled true) d e not (inl does) p = does.2.lists.began p
+  same_began q (Settled true) d e not (inr does) p = does.2.lists.began p
   same_began q (Settled false) d e not does p = does.1.lists.began p
   same_began q (Locked Exclusive true) d e not does p = does.2.lists.began p
   same_began q (Locked Shared true) d e not does p = does.2.lists.began p
@@ -229,7 +232,7 @@ module _ (parts : Parts) (order : IsOrder parts) (Known : List ℕ → Type 0) (
   unlisted w p none listed = listed (ap listing_of none)
 
   -- what was safe before the last listing was held when that began
-  began_held : (events : List Event) (d e : World) (run : Run parts events d e) → IsQuiet d
+  pub began_held : (events : List Event) (d e : World) (run : Run parts events d e) → IsQuiet d
       → ((b : List ℕ) → AtSome (λ w. IsThere parts w.disk b) parts events d e run → Known b)
       → (p : ℕ) → (listing_of (e.calls p) ≡ Unlisted → ⊥) → (b : List ℕ) → BeforeListing (λ w. IsSafe parts w.disk b) p parts events d e run → IsHeld parts (e.began p) b
   began_held [] d e run quiet known p listed b at = absurd at
@@ -307,13 +310,14 @@ module _ (parts : Parts) (events : List Event) (d e : World) (run : Run parts ev
       → (found : List ℕ) × HasReadSince parts found (e.calls process) × (parts.covers found b ≡ true)
   put_is_read process all b at = readers_have process all b (put_listing parts fair.order Known fair.distinct process events d e run fair.quiet (λ x t. t) b at)
 
-killed : (parts : Parts) (calls : List Call) (call : Call) → InTurn parts calls call → InTurn parts calls (unanswered call)
+pub killed : (parts : Parts) (calls : List Call) (call : Call) → InTurn parts calls call → InTurn parts calls (unanswered call)
 killed parts calls (Made name ok) turn = turn
 killed parts calls (Wrote bytes ok) turn = turn
 killed parts calls (Synced ok) turn = tt
 killed parts calls (Linked from to answer) turn = turn
 killed parts calls (Removed name ok) turn = turn
-killed parts calls (Settled ok) turn = tt
+killed parts calls (Settled true) turn = tt
+killed parts calls (Settled false) turn = tt
 killed parts calls (Locked kind ok) turn = tt
 killed parts calls Unlocked turn = tt
 killed parts calls Began turn = turn
@@ -321,12 +325,12 @@ killed parts calls (Listed answer) turn = tt
 killed parts calls (Read name answer) turn = tt
 killed parts calls (Looked name ok) turn = tt
 
-held : SafeIsHeld
+pub held : SafeIsHeld
 held parts d b safe = safe d.names (λ name. inl refl)
 
 -- ---- runs of processes that keep to their clauses
 
-turns_run : (parts : Parts) (events : List Event) (d e : World) (run : FreeRun parts events d e) → KeepsTurn parts events d e run → Run parts events d e
+pub turns_run : (parts : Parts) (events : List Event) (d e : World) (run : FreeRun parts events d e) → KeepsTurn parts events d e run → Run parts events d e
 turns_run parts [] d e run keeps = run
 turns_run parts (By process call ∷ earlier) d e (v, run, (does, notes)) (all, keeps) = (
   v,
@@ -334,18 +338,3 @@ turns_run parts (By process call ∷ earlier) d e (v, run, (does, notes)) (all, 
   record { in_turn = (subst (λ (c : List Call). AllInTurn parts c) notes.own (all process)).0; does = does; notes = notes },
 )
 turns_run parts (event ∷ earlier) d e (v, run, happens) (all, keeps) = (v, turns_run parts earlier d v run keeps, happens)
-
-pub folder_history_laws : FolderHistoryLaws
-folder_history_laws = record {
-  safe = λ parts events d e run fair. safe_for_ever parts events d e run fair;
-  held = held;
-  put = λ parts events d e run fair bytes at. put_is_safe parts events d e run fair bytes at;
-  had = λ parts events d e run fair process all bytes at. put_is_read parts events d e run fair process all bytes at;
-  settled = settled;
-  until = λ parts events d e run fair bytes at. held_run parts fair.order (λ b. AtSome (λ w. IsThere parts w.disk b) parts events d e run) fair.distinct events d e run fair.quiet (λ b t. t) bytes at;
-  placed = λ parts events d e run fair process bytes. placed_is_held parts events d e run fair process bytes;
-  reads = λ parts events d e run fair process all. reads_all parts events d e run fair process all;
-  have = λ parts events d e run fair process all. readers_have parts events d e run fair process all;
-  killed = killed;
-  runs = turns_run;
-}

@@ -10,12 +10,17 @@ use Rattle.folder_history.specs.Turn.{Stage, Idle, Filled, Ready, Placed, Stored
 use Rattle.folder_history.specs.World.{World, SameOpen, SameLists, Stays, Notes, Links, Removes, Makes, Finds, Does}
 use Rattle.folder_history.specs.Run.{Event, By, Comes, Leaves, Ends, PowerLost, Happens}
 use Rattle.folder_history.proofs.Basics.{some_none, some_same, true_false, numbers_same}
-use Rattle.folder_history.proofs.Disks.{IsHidden, Spares, covered_itself, bears_same, spares_same, leaves_same, syncs_bears, syncs_spares, settled_safe, settled_on_disk, settles_bears, settles_spares, settles_leaves, leads_on_disk, on_disk_covered}
+use Rattle.folder_history.proofs.Disks.{IsHidden, Bears, Spares, covered_itself, bears_same, spares_same, leaves_same, syncs_bears, syncs_spares, settled_safe, settled_on_disk, settles_bears, settles_spares, settles_leaves, leads_on_disk, on_disk_covered}
 use Rattle.folder_history.proofs.Means.{IsMaking, Holder, FilledMeans, ReadyMeans, GuardedMeans, IsHere, Means, GaveMeans, ListMeans, Sound, Fits, stands, gave_stands, list_stands, Own, sound_outside, sound_by}
-use Rattle.folder_history.proofs.Effects.{rest_stays, effect_same, effect_brings, effect_no_part, effect_call, now_means, is_making, no_part_bears, no_part_spares, removes_leaves}
+use Rattle.folder_history.proofs.Effects.{settles_now, rest_stays, effect_same, effect_brings, effect_no_part, effect_call, now_means, is_making, no_part_bears, no_part_spares, removes_leaves}
 
 drawn_same : (d e : World) → e.drawn ≡ d.drawn → (name : List ℕ) → Among name d.drawn → Among name e.drawn
 drawn_same d e same name among = subst (λ (x : List (List ℕ)). Among name x) (sym same) among
+
+-- it is no loss of power
+abbrev pub NotLoss : Event → Type 0
+NotLoss PowerLost = ⊥
+NotLoss event = Unit {0}
 
 module _ (parts : Parts) (order : IsOrder parts) (Known : List ℕ → Type 0) (distinct : (a b : List ℕ) → Known a → Known b → parts.name_of a ≡ parts.name_of b → a ≡ b) where
   module _ (q : ℕ) (d : World) (sound : Sound parts Known d) (there : (b : List ℕ) → IsThere parts d.disk b → Known b) where
@@ -296,7 +301,7 @@ module _ (parts : Parts) (order : IsOrder parts) (Known : List ℕ → Type 0) (
     own_means (Removed name true) e turn removes = removed_means name true e turn removes
     own_means (Removed name false) e turn (inl removes) = removed_means name false e turn removes
     own_means (Removed name false) e turn (inr does) = stays_means (Removed name false) e (stage_of parts c) does.0 does.1 refl refl (sound.means q)
-    own_means (Settled true) e turn does = settled_means (lock_of c) (stage_of parts c) e refl does.0 does.1 (sound.means q)
+    own_means (Settled true) e turn does = let x = settles_now parts q d e turn does in settled_means (lock_of c) (stage_of parts c) e refl x.0 x.1 (sound.means q)
     own_means (Settled false) e turn does = tt
     own_means (Locked Exclusive true) e turn does = unguarded_means (Locked Exclusive true) (stage_of parts c) e does.1 does.2 refl (sound.means q)
     own_means (Locked Shared true) e turn does = unguarded_means (Locked Shared true) (stage_of parts c) e does.1 does.2 refl (sound.means q)
@@ -406,7 +411,7 @@ module _ (parts : Parts) (order : IsOrder parts) (Known : List ℕ → Type 0) (
     own_apart (Removed name true) e turn removes p other first second = apart_same e removes.open_files p other first second
     own_apart (Removed name false) e turn (inl removes) p other first second = apart_same e removes.open_files p other first second
     own_apart (Removed name false) e turn (inr does) p other first second = apart_same e does.1.open_files p other first second
-    own_apart (Settled true) e turn does p other first second = apart_same e does.1.open_files p other first (settled_making (lock_of c) (stage_of parts c) second)
+    own_apart (Settled true) e turn does p other first second = apart_same e (settles_now parts q d e turn does).1.open_files p other first (settled_making (lock_of c) (stage_of parts c) second)
     own_apart (Settled false) e turn does p other first second = absurd second
     own_apart (Locked Exclusive true) e turn does p other first second = apart_same e does.2.open_files p other first (unguarded_making (stage_of parts c) second)
     own_apart (Locked Shared true) e turn does p other first second = apart_same e does.2.open_files p other first (unguarded_making (stage_of parts c) second)
@@ -461,7 +466,7 @@ module _ (parts : Parts) (order : IsOrder parts) (Known : List ℕ → Type 0) (
     own_lists (Removed name true) e turn removes = stopped_along (Removed name true) e (removes.lists.began q) (listing_of c) (sound.lists q)
     own_lists (Removed name false) e turn (inl removes) = stopped_along (Removed name false) e (removes.lists.began q) (listing_of c) (sound.lists q)
     own_lists (Removed name false) e turn (inr does) = stopped_along (Removed name false) e (does.1.lists.began q) (listing_of c) (sound.lists q)
-    own_lists (Settled true) e turn does = lists_along (Settled true) e does.1.lists refl (listing_of c) (sound.lists q)
+    own_lists (Settled true) e turn does = lists_along (Settled true) e (settles_now parts q d e turn does).1.lists refl (listing_of c) (sound.lists q)
     own_lists (Settled false) e turn does = lists_along (Settled false) e does.1.lists refl (listing_of c) (sound.lists q)
     own_lists (Locked Exclusive true) e turn does = stopped_along (Locked Exclusive true) e (does.2.lists.began q) (listing_of c) (sound.lists q)
     own_lists (Locked Shared true) e turn does = stopped_along (Locked Shared true) e (does.2.lists.began q) (listing_of c) (sound.lists q)
@@ -562,15 +567,15 @@ module _ (parts : Parts) (order : IsOrder parts) (Known : List ℕ → Type 0) (
       }
   step PowerLost d e sound there lost = record { sound = quiet_sound e lost.calls; safe = restarts_safe d.disk e.disk lost.disk }
 
-  abbrev pub NotLoss : Event → Type 0
-  NotLoss PowerLost = ⊥
-  NotLoss event = Unit {0}
+  -- what each event leaves but a loss of power
+  pub step_bears : (event : Event) (d e : World) → NotLoss event → Sound parts Known d → ((b : List ℕ) → IsThere parts d.disk b → Known b) → Happens parts event d e → Bears parts d.disk e.disk
+  step_bears (By q call) d e not sound there happens = (effect_call parts order Known distinct q d sound there call e happens.in_turn happens.does).bears
+  step_bears (Comes name bytes) d e not sound there comes =
+      (effect_brings parts order Known distinct (λ p. Unit {0}) name bytes comes.file d e comes.free comes.fresh comes.disk (rest_stays parts order Known distinct (λ p. Unit {0}) d e comes.stays)).bears
+  step_bears (Leaves name) d e not sound there leaves = (effect_no_part parts order Known distinct 0 d sound (λ p. Unit {0}) name e leaves.no_part leaves.removes).bears
+  step_bears (Ends q) d e not sound there ends = bears_same parts order d.disk e.disk ends.disk
+  step_bears PowerLost d e not sound there lost = absurd not
 
   -- what is held stays so if no power is lost
   pub step_held : (event : Event) (d e : World) → NotLoss event → Sound parts Known d → ((b : List ℕ) → IsThere parts d.disk b → Known b) → Happens parts event d e → (b : List ℕ) → IsHeld parts d.disk b → IsHeld parts e.disk b
-  step_held (By q call) d e not sound there happens = (effect_call parts order Known distinct q d sound there call e happens.in_turn happens.does).bears.held
-  step_held (Comes name bytes) d e not sound there comes =
-      (effect_brings parts order Known distinct (λ p. Unit {0}) name bytes comes.file d e comes.free comes.fresh comes.disk (rest_stays parts order Known distinct (λ p. Unit {0}) d e comes.stays)).bears.held
-  step_held (Leaves name) d e not sound there leaves = (effect_no_part parts order Known distinct 0 d sound (λ p. Unit {0}) name e leaves.no_part leaves.removes).bears.held
-  step_held (Ends q) d e not sound there ends = (bears_same parts order d.disk e.disk ends.disk).held
-  step_held PowerLost d e not sound there lost = absurd not
+  step_held event d e not sound there happens = (step_bears event d e not sound there happens).held

@@ -5,7 +5,7 @@ use Rattle.std.proofs.lemmas.Bool.{cond-true, cond-false, eq-eqb, ne_eqb}
 use Rattle.folder_history.specs.Call.{Call, Synced, Removed, Settled, Locked, Unlocked, Listed, Read, Kind, Exclusive, lock_of, lock_after}
 use Rattle.folder_history.specs.Disk.{Among, Disk, Names, MayLead, MayLeave, Leads, Syncs, Settles, Restarts}
 use Rattle.folder_history.specs.Parts.{Parts, IsOrder, IsHeld, IsSafe}
-use Rattle.folder_history.specs.Turn.{Stored, stage_of, HasRead, InTurn}
+use Rattle.folder_history.specs.Turn.{Stored, stage_of, HasRead, IsGone, InTurn}
 use Rattle.folder_history.specs.World.{World, Stays, Notes, Removes, Finds, Does}
 use Rattle.folder_history.specs.Run.{IsQuiet}
 use Rattle.folder_history.proofs.Basics.{some_none, same_bytes, other_bytes, names_same, numbers_same}
@@ -245,7 +245,7 @@ run = (
                       ),
                       record { in_turn = tt; does = inl (refl, syncs_calm 0 w0 calm, same_stays 1 (Synced true) w2); notes = noted_notes 1 (Synced true) w2 },
                     ),
-                    record { in_turn = tt; does = (settles_calm w0 calm, same_stays 1 (Settled true) w3); notes = noted_notes 1 (Settled true) w3 },
+                    record { in_turn = refl; does = inl (refl, settles_calm w0 calm, same_stays 1 (Settled true) w3); notes = noted_notes 1 (Settled true) w3 },
                   ),
                   record { in_turn = tt; does = finds_does 0 pack 0 w4 refl; notes = record { own = refl; others = λ p ne. with_others 0 (Read pack (Some (Some pack))) w4 p ne } },
                 ),
@@ -253,7 +253,7 @@ run = (
               ),
               record { in_turn = tt; does = inl (refl, syncs_calm 1 w0 calm, same_stays 0 (Synced true) w6); notes = noted_notes 0 (Synced true) w6 },
             ),
-            record { in_turn = tt; does = (settles_calm w0 calm, same_stays 0 (Settled true) w7); notes = noted_notes 0 (Settled true) w7 },
+            record { in_turn = refl; does = inl (refl, settles_calm w0 calm, same_stays 0 (Settled true) w7); notes = noted_notes 0 (Settled true) w7 },
           ),
           record { in_turn = tt; does = (λ p ne. free8 p, refl, same_stays 0 (Locked Exclusive true) w8); notes = noted_notes 0 (Locked Exclusive true) w8 },
         ),
@@ -297,6 +297,33 @@ none_left n = ⊎_elim
 -- Two packs of which each removes what the other has put: all is gone.
 pub removed_unlooked : IsQuiet w0 × ((b : List ℕ) → IsSafe parts w0.disk b) × RunsBy Unlooked calls w0 w13 × ((b : List ℕ) → IsHeld parts w13.disk b → ⊥)
 removed_unlooked = (λ p. refl, safe_first, run, λ b (held : IsHeld parts w13.disk b). some_none held.1 (sym held.2 ∙ none_left (parts.name_of held.0)))
+
+-- ---- and what one of them has read is gone
+
+abbrev w14 : World
+w14 = noted 0 (Read less (Some None)) w13
+
+abbrev pub w15 : World
+w15 = record w14 { disk = record w14.disk { earlier = λ n. [] }; calls = calls_with 0 (Settled true) w14 }
+
+misses : RunsBy Unlooked ((0, Settled true) ∷ (0, Read less (Some None)) ∷ calls) w0 w15
+misses = (
+  w14,
+  (
+    w13,
+    run,
+    record { in_turn = tt; does = (none_left less, refl, same_stays 0 (Read less (Some None)) w13); notes = noted_notes 0 (Read less (Some None)) w13 },
+  ),
+  record {
+    in_turn = refl;
+    does = inl (refl, record { names = λ n. refl; earlier = λ n. refl; contents = λ f. refl; synced = λ f. refl }, record { drawn = refl; open_files = λ p. refl; lists = record { began = λ p. refl; gone = λ p. refl } });
+    notes = record { own = refl; others = λ p ne. with_others 0 (Settled true) w14 p ne };
+  },
+)
+
+-- What a process has read, and found gone, and has synced the folder after that, is held by nothing.
+pub gone_unlooked : RunsBy Unlooked ((0, Settled true) ∷ (0, Read less (Some None)) ∷ calls) w0 w15 × IsGone parts less (w15.calls 0) × (IsHeld parts w15.disk less → ⊥)
+gone_unlooked = (misses, inl (inl (refl, inl (refl, refl))), λ (held : IsHeld parts w15.disk less). some_none held.1 (sym held.2 ∙ none_left (parts.name_of held.0)))
 
 -- ---- steps on a disk
 

@@ -67,6 +67,12 @@ abbrev pub lock_of : List Call → Option Kind
 lock_of [] = None
 lock_of (call ∷ earlier) = lock_after call (lock_of earlier)
 
+-- whether no sync of the folder has failed, by a process's calls since it began
+abbrev pub can_settle : List Call → Bool
+can_settle [] = true
+can_settle (Settled false ∷ earlier) = false
+can_settle (call ∷ earlier) = can_settle earlier
+
 -- whether no write or sync of the open file has failed since it was opened, by a call and what was before
 abbrev pub clean_after : Call → Bool → Bool
 clean_after (Made name true) clean = true

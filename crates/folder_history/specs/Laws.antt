@@ -1,9 +1,9 @@
 -- The laws of a folder of parts.
-use Rattle.std.specs.Prelude.{◌≡◌, ℕ, true, List}
-use Rattle.folder_history.specs.Call.{Call, unanswered}
-use Rattle.folder_history.specs.Disk.{Disk, Settles}
+use Rattle.std.specs.Prelude.{◌≡◌, ◌≢◌, ◌⊎◌, ℕ, true, List, Some}
+use Rattle.folder_history.specs.Call.{Call, Exclusive, lock_of, unanswered}
+use Rattle.folder_history.specs.Disk.{Among, Disk, Settles}
 use Rattle.folder_history.specs.Parts.{Parts, IsOrder, IsThere, IsHeld, IsSafe}
-use Rattle.folder_history.specs.Turn.{InTurn, Placed, stage_of, HasReadAll, HasReadSince}
+use Rattle.folder_history.specs.Turn.{InTurn, Placed, stage_of, Gave, listing_of, HasRead, HasReadAll, HasReadSince, HasWatched, HasPlaced, IsGone}
 use Rattle.folder_history.specs.World.{World}
 use Rattle.folder_history.specs.Run.{Event, Run, FreeRun, KeepsTurn, AtSome, SinceLoss, BeforeListing, AreDistinct, HasPut, IsQuiet}
 
@@ -68,6 +68,53 @@ ReadersHave =
     (bytes : List ℕ) → BeforeListing (λ w. IsSafe parts w.disk bytes) process parts events d e run →
     (found : List ℕ) × HasReadSince parts found (e.calls process) × (parts.covers found bytes ≡ true)
 
+-- One of these names is that of a part that covers the bytes.
+abbrev pub Lists : Parts → List (List ℕ) → List ℕ → Type 0
+Lists parts names bytes = (found : List ℕ) × Among (parts.name_of found) names × (parts.covers found bytes ≡ true)
+
+-- Whoever has listed the folder was given the name of a part that covers what any process had put at any moment before that listing.
+abbrev pub PutIsListed : Type 0
+PutIsListed =
+    (parts : Parts) (events : List Event) (d e : World) (run : Run parts events d e) → IsFair parts events d e run →
+    (process : ℕ) (names : List (List ℕ)) → listing_of (e.calls process) ≡ Gave names →
+    (bytes : List ℕ) → BeforeListing (HasPut parts bytes) process parts events d e run → Lists parts names bytes
+
+-- One of these names is that of a part that covers the bytes, and whatever these calls have read under that name is this part.
+abbrev pub FindsAmong : Parts → List (List ℕ) → List Call → List ℕ → Type 0
+FindsAmong parts names calls bytes =
+    (found : List ℕ) × Among (parts.name_of found) names × (parts.covers found bytes ≡ true) × ((read : List ℕ) → HasRead parts read calls → parts.name_of read ≡ parts.name_of found → read ≡ found)
+
+-- The same, and what it has read under that name is this part. So whoever reads under each name that it was given has read a part that covers
+-- what was put before.
+abbrev pub PutIsFound : Type 0
+PutIsFound =
+    (parts : Parts) (events : List Event) (d e : World) (run : Run parts events d e) → IsFair parts events d e run →
+    (process : ℕ) (names : List (List ℕ)) → listing_of (e.calls process) ≡ Gave names →
+    (bytes : List ℕ) → BeforeListing (HasPut parts bytes) process parts events d e run → FindsAmong parts names (e.calls process) bytes
+
+-- Whoever has listed the folder under the exclusive lock, and has had it since, was given the name of a part that covers what was held at
+-- any moment since the last loss of power at which it did not have that lock.
+abbrev pub WatchedIsListed : Type 0
+WatchedIsListed =
+    (parts : Parts) (events : List Event) (d e : World) (run : Run parts events d e) → IsFair parts events d e run →
+    (process : ℕ) (names : List (List ℕ)) → HasWatched names (e.calls process) →
+    (bytes : List ℕ) → SinceLoss (λ w. (lock_of (w.calls process) ≢ Some Exclusive) × IsHeld parts w.disk bytes) parts events d e run → Lists parts names bytes
+
+-- Of two processes that each gave a part its name under the exclusive lock, which it had since its listing began, one was given the name
+-- of a part that covers the other's, if no power was lost since the first did.
+abbrev pub PlacedApart : Type 0
+PlacedApart =
+    (parts : Parts) (events : List Event) (d e : World) (run : Run parts events d e) → IsFair parts events d e run →
+    (p q : ℕ) → p ≢ q → (a b : List ℕ) (seen have : List (List ℕ)) →
+    SinceLoss (λ w. HasPlaced parts a seen (w.calls p)) parts events d e run → SinceLoss (λ w. HasPlaced parts b have (w.calls q)) parts events d e run →
+    Lists parts have a ⊎ Lists parts seen b
+
+-- What a process has read, and then found gone or replaced, and synced the folder after that, is safe for ever: another part covers it.
+abbrev pub GoneIsSafe : Type 0
+GoneIsSafe =
+    (parts : Parts) (events : List Event) (d e : World) (run : Run parts events d e) → IsFair parts events d e run →
+    (process : ℕ) (bytes : List ℕ) → AtSome (λ w. IsGone parts bytes (w.calls process)) parts events d e run → IsSafe parts e.disk bytes
+
 -- A call that is in turn is so before it is answered: a process may be killed in any call.
 abbrev pub KilledInTurn : Type 0
 KilledInTurn = (parts : Parts) (calls : List Call) (call : Call) → InTurn parts calls call → InTurn parts calls (unanswered call)
@@ -89,3 +136,8 @@ pub record FolderHistoryLaws : Type 0 where
   pub have : ReadersHave
   pub killed : KilledInTurn
   pub runs : TurnsRun
+  pub listed : PutIsListed
+  pub found : PutIsFound
+  pub watched : WatchedIsListed
+  pub apart : PlacedApart
+  pub gone : GoneIsSafe

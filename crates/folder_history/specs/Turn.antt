@@ -1,6 +1,6 @@
 -- The protocol: which calls a process may make next, by its own calls so far and by nothing else.
-use Rattle.std.specs.Prelude.{◌≡◌, ◌≢◌, ◌⊎◌, ℕ, Bool, true, false, List, [], ◌∷◌, ◌++◌, Option, Some, if◌then◌else◌, bytes_eq}
-use Rattle.folder_history.specs.Call.{Call, Made, Wrote, Synced, Linked, Removed, Settled, Locked, Unlocked, Began, Listed, Read, Looked, Kind, Exclusive, Linking, Done, Taken, lock_of}
+use Rattle.std.specs.Prelude.{◌≡◌, ◌≢◌, ◌⊎◌, ℕ, Bool, true, false, List, [], ◌∷◌, ◌++◌, Option, Some, None, if◌then◌else◌, bytes_eq}
+use Rattle.folder_history.specs.Call.{Call, Made, Wrote, Synced, Linked, Removed, Settled, Locked, Unlocked, Began, Listed, Read, Looked, Kind, Exclusive, Linking, Done, Taken, lock_of, can_settle}
 use Rattle.folder_history.specs.Disk.{Among}
 use Rattle.folder_history.specs.Parts.{Parts, IsNoPart}
 
@@ -116,6 +116,7 @@ InTurn parts calls (Wrote bytes ok) = (name : List ℕ) × (filled : List ℕ) �
 InTurn parts calls (Linked from to answer) = (bytes : List ℕ) × (stage_of parts calls ≡ Ready from bytes) × (to ≡ parts.name_of bytes)
 InTurn parts calls (Removed name ok) = IsNoPart parts name ⊎ MayGo parts calls name
 InTurn parts calls Began = (kind : Kind) × (lock_of calls ≡ Some kind)
+InTurn parts calls (Settled true) = can_settle calls ≡ true
 InTurn parts calls call = Unit {0}
 
 -- all calls are, each after those before it
@@ -167,3 +168,35 @@ pub record HasReadAll (parts : Parts) (calls : List Call) : Type 0 where
   pub names : List (List ℕ)
   pub listed : listing_of calls ≡ Gave names
   pub each : (bytes : List ℕ) → Among (parts.name_of bytes) names → (found : List ℕ) × (parts.name_of found ≡ parts.name_of bytes) × HasReadSince parts found calls
+
+-- The exclusive lock was had when the last listing began, and is had since.
+abbrev pub IsAlone : List Call → Type 0
+IsAlone [] = ⊥
+IsAlone (Began ∷ earlier) = lock_of earlier ≡ Some Exclusive
+IsAlone (Locked kind ok ∷ earlier) = ⊥
+IsAlone (Unlocked ∷ earlier) = ⊥
+IsAlone (call ∷ earlier) = IsAlone earlier
+
+-- And that listing gave these names.
+pub record HasWatched (names : List (List ℕ)) (calls : List Call) : Type 0 where
+  pub listed : listing_of calls ≡ Gave names
+  pub alone : IsAlone calls
+
+-- A new file with these bytes was given its name under the exclusive lock, which was had since the beginning of a listing that gave these names.
+abbrev pub HasPlaced : Parts → List ℕ → List (List ℕ) → List Call → Type 0
+HasPlaced parts bytes names [] = ⊥
+HasPlaced parts bytes names (Linked from to Done ∷ earlier) = ((stage_of parts earlier ≡ Ready from bytes) × HasWatched names earlier) ⊎ HasPlaced parts bytes names earlier
+HasPlaced parts bytes names (call ∷ earlier) = HasPlaced parts bytes names earlier
+
+-- A part with these bytes was read, and later no file had its name, or one with other bytes.
+abbrev pub HasMissed : Parts → List ℕ → List Call → Type 0
+HasMissed parts bytes [] = ⊥
+HasMissed parts bytes (Read name (Some None) ∷ earlier) = ((name ≡ parts.name_of bytes) × HasRead parts bytes earlier) ⊎ HasMissed parts bytes earlier
+HasMissed parts bytes (Read name (Some (Some found)) ∷ earlier) = ((name ≡ parts.name_of bytes) × (found ≢ bytes) × HasRead parts bytes earlier) ⊎ HasMissed parts bytes earlier
+HasMissed parts bytes (call ∷ earlier) = HasMissed parts bytes earlier
+
+-- And the folder was synced after that.
+abbrev pub IsGone : Parts → List ℕ → List Call → Type 0
+IsGone parts bytes [] = ⊥
+IsGone parts bytes (Settled true ∷ earlier) = HasMissed parts bytes earlier ⊎ IsGone parts bytes earlier
+IsGone parts bytes (call ∷ earlier) = IsGone parts bytes earlier

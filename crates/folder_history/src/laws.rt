@@ -3,7 +3,7 @@ ghost use Rattle.folder_history.specs.Folders.{FoldersKeep};
 ghost use Rattle.folder_history.specs.Laws.{FolderHistoryLaws};
 
 /// What was put is never lost, and who reads has it.
-pub fn folder_history_laws()
+pub fn folder_model_laws()
     ensures { FolderHistoryLaws }
 {}
 

@@ -3,4 +3,4 @@
 
 mod laws;
 
-pub use laws::{folder_history_laws, folders_keep};
+pub use laws::{folder_model_laws, folders_keep};

@@ -1,5 +1,5 @@
 -- What is read of one part is enough: its deletions, if it has none of the names, and else all of it.
-use Rattle.std.specs.Prelude.{◌≡◌, ℕ, ◌+◌, ◌≤◌, Bool, true, false, ◌||◌, List, [], ◌∷◌, length, Option, Some, None, is_some, Result, Ok, Err}
+use Rattle.std.specs.Prelude.{◌≡◌, ◌⊎◌, ℕ, ◌+◌, ◌≤◌, Bool, true, false, ◌||◌, List, [], ◌∷◌, length, Option, Some, None, is_some, Result, Ok, Err}
 use Rattle.std.proofs.Common.{refl, sym, ap, subst, ◌∙◌, inl, inr, arith}
 use Rattle.std.specs.List.{list_any}
 use Rattle.std.specs.Ordering.{eq_by_cmp}
@@ -27,7 +27,7 @@ use Rattle.replica_store.proofs.RowsIn.{entries-rows_in}
 use Rattle.replica_commands.specs.Loads.{is_one_of}
 use Rattle.replica_reading.specs.Held.{held_in}
 use Rattle.folder_home.specs.Parts.{IsFaultOf, IsWhole, OpensPart, PartForm}
-use Rattle.folder_home.specs.Skims.{IsEnough, IsUnreadPart, KnowsEnough}
+use Rattle.folder_home.specs.Skims.{IsEnough, IsOpenedOr, IsUnreadPart, KnowsEnough}
 use Rattle.folder_home.specs.declared.fault.PartFault.{PartFault}
 use Rattle.folder_home.specs.declared.fault.PartFault.TheVariants.{Damaged, Refused}
 use Rattle.folder_home.proofs.SkimmedJoins.{joined_count, joined_enough, joined_limit, joined_merges, knows_itself}
@@ -38,16 +38,16 @@ or_none : (a b : Bool) → (a || b) ≡ false → (a ≡ false) × (b ≡ false)
 or_none true b e = cc
 or_none false b e = (refl, e)
 
--- a name that is one of some is not among others
-not_among : (first : BatchName) (count : ℕ) (names : List BatchName) (name : BatchName) → list_any (is_one_of first count) names ≡ false → is_one_of first count name ≡ true → list_any (eq_by_cmp name_cmp name) names ≡ false
-not_among first count [] name others one = refl
-not_among first count (n ∷ names) name others one =
-    let parts = or_none (is_one_of first count n) (list_any (is_one_of first count) names) others in
+-- a name that passes a test is not among those of which none does
+pub not_among : (p : BatchName → Bool) (names : List BatchName) (name : BatchName) → list_any p names ≡ false → p name ≡ true → list_any (eq_by_cmp name_cmp name) names ≡ false
+not_among p [] name others one = refl
+not_among p (n ∷ names) name others one =
+    let parts = or_none (p n) (list_any p names) others in
     elim (eq_by_cmp name_cmp name n) as (λ b. eq_by_cmp name_cmp name n ≡ b → (b || list_any (eq_by_cmp name_cmp name) names) ≡ false) [
       | true ↦ λ t.
-          let same : is_one_of first count name ≡ false = ap (is_one_of first count) (same_name name n t) ∙ parts.0 in
+          let same : p name ≡ false = ap p (same_name name n t) ∙ parts.0 in
           let bad : true ≡ false = sym one ∙ same in cc
-      | false ↦ λ t. not_among first count names name parts.1 one
+      | false ↦ λ t. not_among p names name parts.1 one
     ] refl
 
 none_is : (o : Option Batch) → is_some o ≡ false → o ≡ None
@@ -58,40 +58,61 @@ none_is (Some rows) e = cc
 empty_rows : (m : Segments) → map.entries m ≡ [] → (name : BatchName) → map.get (rows_in m) name ≡ None
 empty_rows m none name = map.get-entries (rows_in m) name ∙ ap (map.find name_cmp name) (entries-rows_in m ∙ ap rows_entries none)
 
+-- what is skimmed of a file that holds a replica is what that has
+pub record IsSkimOf (t : Table) (names : List BatchName) (rows : set.FinSet row_name_cmp) (r : Replica) : Type 0 where
+  pub schema : t ≡ r.schema
+  pub deleted : rows ≡ r.state.deleted
+  pub named : (name : BatchName) → set.contains (names_of r.state.batches) name ≡ list_any (eq_by_cmp name_cmp name) names
+  pub count : length names ≡ map.len r.state.batches
+
+pub skimmed_of : FilesAreSkimmed → (bytes : List ℕ) (r : Replica) (t : Table) (names : List BatchName) (rows : set.FinSet row_name_cmp) → AreBytes bytes → held_in bytes ≡ Ok r → skim_in bytes ≡ Ok (t, (names, rows)) → IsSkimOf t names rows r
+skimmed_of law bytes r t names rows fit held skims =
+    let read = bind_ok (canonical_read bytes) (λ (o : OfferForm). Ok (offering (record { 0 = 1 }) o)) r held in
+    let o : OfferForm = read.0 in
+    let is : offering (record { 0 = 1 }) o ≡ r = ok_is (offering (record { 0 = 1 }) o) r read.2 in
+    let skimmed : IsSkimmed bytes o = law bytes o fit read.1 in
+    let same : ◌≡◌ {A = Table × (List BatchName × set.FinSet row_name_cmp)} (t, (names, rows)) (o.schema, (skimmed.names, o.state.deleted)) = same_Ok (t, (names, rows)) (o.schema, (skimmed.names, o.state.deleted)) (sym skims ∙ skimmed.found) in
+    let listed : names ≡ skimmed.names = ap (λ (p : Table × (List BatchName × set.FinSet row_name_cmp)). p.1.0) same in
+    record {
+      schema = ap (λ (p : Table × (List BatchName × set.FinSet row_name_cmp)). p.0) same ∙ ap (λ (x : Replica). x.schema) is;
+      deleted = ap (λ (p : Table × (List BatchName × set.FinSet row_name_cmp)). p.1.1) same ∙ ap (λ (x : Replica). x.state.deleted) is;
+      named = λ name.
+          ap (λ (x : Replica). set.contains (names_of x.state.batches) name) (sym is)
+          ∙ ap (λ (x : set.FinSet name_cmp). set.contains x name) (sym skimmed.same_names ∙ ap (λ (ns : List BatchName). set.from_list {R = name_cmp} ns) (sym listed))
+          ∙ set.contains-from_list names_total names name;
+      count = ap length listed ∙ skimmed.count ∙ ap (λ (x : Replica). map.len x.state.batches) is;
+    }
+
 -- a part's deletions are enough of it, if it has none of the names
 pub deletions_enough : FilesAreSkimmed → (first : BatchName) (count : ℕ) (bytes : List ℕ) (r s : Replica) (offer : OfferForm) (t : Table) (names : List BatchName) (rows : set.FinSet row_name_cmp) (n : ℕ)
     → AreBytes bytes → held_in bytes ≡ Ok r → skim_in bytes ≡ Ok (t, (names, rows)) → list_any (is_one_of first count) names ≡ false
     → offer.schema ≡ t → offer.state.batches ≡ rows_in offer.segments → offer.state.deleted ≡ rows → map.entries offer.segments ≡ [] → opened (record { 0 = 1 }) offer ≡ Ok s → n ≡ length names
     → IsEnough first count s n r
 deletions_enough law first count bytes r s offer t names rows n fit held skims others schema batches deleted empty made many =
-    let read = bind_ok (canonical_read bytes) (λ (o : OfferForm). Ok (offering (record { 0 = 1 }) o)) r held in
-    let o : OfferForm = read.0 in
-    let is : offering (record { 0 = 1 }) o ≡ r = ok_is (offering (record { 0 = 1 }) o) r read.2 in
     let known : offering (record { 0 = 1 }) offer ≡ s = same_Ok (offering (record { 0 = 1 }) offer) s made in
-    let skimmed : IsSkimmed bytes o = law bytes o fit read.1 in
-    let same : ◌≡◌ {A = Table × (List BatchName × set.FinSet row_name_cmp)} (t, (names, rows)) (o.schema, (skimmed.names, o.state.deleted)) = same_Ok (t, (names, rows)) (o.schema, (skimmed.names, o.state.deleted)) (sym skims ∙ skimmed.found) in
-    let listed : names ≡ skimmed.names = ap (λ (p : Table × (List BatchName × set.FinSet row_name_cmp)). p.1.0) same in
-    let held_by : (name : BatchName) → set.contains (names_of r.state.batches) name ≡ list_any (eq_by_cmp name_cmp name) names =
-    λ name. ap (λ (x : Replica). set.contains (names_of x.state.batches) name) (sym is)
-    ∙ ap (λ (x : set.FinSet name_cmp). set.contains x name) (sym skimmed.same_names ∙ ap (λ (ns : List BatchName). set.from_list {R = name_cmp} ns) (sym listed))
-    ∙ set.contains-from_list names_total names name in
+    let found : IsSkimOf t names rows r = skimmed_of law bytes r t names rows fit held skims in
     let nothing : (name : BatchName) → map.get s.state.batches name ≡ None =
     λ name. ap (λ (x : Replica). map.get x.state.batches name) (sym known) ∙ ap (λ (m : map.FinMap name_cmp Batch). map.get m name) batches ∙ empty_rows offer.segments empty name in
-    let counted : n ≡ map.len r.state.batches = many ∙ ap length listed ∙ skimmed.count ∙ ap (λ (x : Replica). map.len x.state.batches) is in
+    let counted : n ≡ map.len r.state.batches = many ∙ found.count in
     record {
       knows = record {
-        schema = ap (λ (x : Replica). x.schema) (sym known) ∙ schema ∙ ap (λ (p : Table × (List BatchName × set.FinSet row_name_cmp)). p.0) same ∙ ap (λ (x : Replica). x.schema) is;
-        deleted = ap (λ (x : Replica). x.state.deleted) (sym known) ∙ deleted ∙ ap (λ (p : Table × (List BatchName × set.FinSet row_name_cmp)). p.1.1) same ∙ ap (λ (x : Replica). x.state.deleted) is;
+        schema = ap (λ (x : Replica). x.schema) (sym known) ∙ schema ∙ found.schema;
+        deleted = ap (λ (x : Replica). x.state.deleted) (sym known) ∙ deleted ∙ found.deleted;
         batches = λ name rows has. let bad : None ≡ Some rows = sym (nothing name) ∙ has in cc;
         named = λ name one.
             let none : map.get r.state.batches name ≡ None =
-            none_is (map.get r.state.batches name) (sym (contains-names_of r.state.batches name) ∙ held_by name ∙ not_among first count names name others one) in
+            none_is (map.get r.state.batches name) (sym (contains-names_of r.state.batches name) ∙ found.named name ∙ not_among (is_one_of first count) names name others one) in
             nothing name ∙ sym none;
       };
       counted = omega (arith, counted);
     }
 
 -- ---- all of a part
+
+-- a part of which more is read than its deletions was compared with its name
+pub opened_compared : {So : Type 0} (part : PartForm) (held : Replica) → IsOpenedOr So part held → So ⊎ IsWhole part
+opened_compared part held (inl so) = inl so
+opened_compared part held (inr opened) = inr opened.0
 
 -- the same replica and count are as much
 pub same_enough : (first : BatchName) (count : ℕ) (s t r : Replica) (n m : ℕ) → IsEnough first count s n r → t ≡ s → m ≡ n → IsEnough first count t m r

@@ -28,7 +28,7 @@ pub record JoinedSoFar {D : Type 0} (remaining : D → Option (List ℕ)) (start
 pub joined_none : {D : Type 0} (remaining : D → Option (List ℕ)) (start : Replica) (all : List (Given D)) → JoinedSoFar remaining start start all all 0
 joined_none remaining start all = record { untouched = refl; joined = λ forms known. (tt, refl) }
 
-whole_more : (parts : List PartForm) (part : PartForm) → AreWhole parts → IsWhole part → AreWhole (parts ++ part ∷ [])
+pub whole_more : (parts : List PartForm) (part : PartForm) → AreWhole parts → IsWhole part → AreWhole (parts ++ part ∷ [])
 whole_more [] part all one = (one, tt)
 whole_more (first ∷ parts) part all one = (all.0, whole_more parts part all.1 one)
 

@@ -15,7 +15,7 @@ use Rattle.hex.proofs.HexLemmas.{length-encode_with}
 use Rattle.sha2.specs.Sha512.{sha512, digest_bytes, final_hash, initial_hash_512}
 use Rattle.sha2.proofs.Facts512.{length-sha512}
 use Rattle.folder_history.specs.Parts.{IsNoPart}
-use Rattle.folder_home.specs.Covers.{folder_parts}
+use Rattle.folder_home.specs.Covers.{folder_home}
 use Rattle.folder_home.specs.PartName.{part_name, is_digit, is_part_name}
 
 -- ---- a digest has bytes
@@ -97,7 +97,7 @@ names_are bytes =
     let size : length digest ≡ 16 = length-take-le 16 (sha512 bytes) (let l = length-sha512 bytes in omega (arith, l)) in
     ends (encode_lower digest) (length-encode_with lower_digits digest ∙ ap (λ (n : ℕ). 2 * n) size) (are_digits digest (all_taken is_byte 16 (sha512 bytes) (bytes_of_sha512 bytes)))
 
-pub no_part : (name : List ℕ) → is_part_name name ≡ false → IsNoPart folder_parts name
+pub no_part : (name : List ℕ) → is_part_name name ≡ false → IsNoPart folder_home name
 no_part name is bytes same = let both : true ≡ false = sym (names_are bytes) ∙ ap is_part_name (sym same) ∙ is in cc
 
 -- ---- how it begins
@@ -111,7 +111,7 @@ begins first rest named =
     (and_parts (is_digit first) (list_all is_digit (take 31 rest)) digits.0).0
 
 -- what begins otherwise than with a digit is no part's name
-pub begins_otherwise : (first : ℕ) (rest : List ℕ) → is_digit first ≡ false → IsNoPart folder_parts (first ∷ rest)
+pub begins_otherwise : (first : ℕ) (rest : List ℕ) → is_digit first ≡ false → IsNoPart folder_home (first ∷ rest)
 begins_otherwise first rest none bytes same =
     let named : is_part_name (first ∷ rest) ≡ true = ap is_part_name same ∙ names_are bytes in
     let both : true ≡ false = sym (begins first rest named) ∙ none in cc

@@ -8,7 +8,7 @@ use Rattle.replica_store.specs.Replica.{Replica}
 use Rattle.replica_reading.specs.Held.{held_in}
 use Rattle.replica_commands.specs.Commands.{file_of, merged_with}
 use Rattle.replica_commands.specs.ForgetFileLaws.{StandsFor}
-use Rattle.folder_home.specs.Covers.{covers, folder_parts, HasAllOf}
+use Rattle.folder_home.specs.Covers.{covers, folder_home, HasAllOf}
 use Rattle.folder_home.specs.FolderLaws.{Joins, IsOneOf}
 use Rattle.folder_home.specs.ForgetFolderLaws.{Forgets, AreAlike}
 use Rattle.folder_home.specs.PartName.{is_part_name}
@@ -38,11 +38,11 @@ CoveredAddsNothing =
 
 -- what has a name that parts don't have is no part, whatever its bytes
 abbrev pub OthersAreNoParts : Type 0
-OthersAreNoParts = (name : List ℕ) → is_part_name name ≡ false → IsNoPart folder_parts name
+OthersAreNoParts = (name : List ℕ) → is_part_name name ≡ false → IsNoPart folder_home name
 
 -- the laws of covering
 pub record CoverLaws : Type 0 where
-  pub order : IsOrder folder_parts
+  pub order : IsOrder folder_home
   pub tells : CoversTells
   pub pack : PackCovers
   pub forget : ForgetCovers

@@ -38,8 +38,8 @@ unfoldable pub covers : List ℕ → List ℕ → Bool
 covers file other = same_text file other || covers_found (held_in file) (held_in other)
 
 -- the parts of a folder: a part is named by its bytes, and covers as its file does
-abbrev pub folder_parts : Parts
-folder_parts = record { name_of = part_name; covers = covers }
+abbrev pub folder_home : Parts
+folder_home = record { name_of = part_name; covers = covers }
 
 -- ---- the same in words
 

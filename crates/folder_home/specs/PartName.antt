@@ -2,12 +2,12 @@
 use Rattle.std.specs.Prelude.{ℕ, Bool, ◌&&◌, ◌||◌, ◌==◌, nat_le, List, ◌++◌, length, take, drop, codes}
 use Rattle.std.specs.List.{list_all}
 use Rattle.table_model.specs.Identifier.{same_text}
-use Rattle.hex.specs.Hex.{encode_lower}
 use Rattle.sha2.specs.Sha512.{sha512}
+use Rattle.replica_reading.specs.Digests.{first_digits}
 
--- the first 32 hexadecimal digits of a digest, and `.lanes`
+-- the first 32 hexadecimal digits of a SHA-512, and `.lanes`
 abbrev pub name_by : List ℕ → List ℕ
-name_by digest = encode_lower (take 16 digest) ++ codes ".lanes"
+name_by digest = first_digits digest ++ codes ".lanes"
 
 -- the first 32 hexadecimal digits of the SHA-512, and `.lanes`
 unfoldable pub part_name : List ℕ → List ℕ

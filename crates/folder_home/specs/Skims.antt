@@ -1,14 +1,21 @@
 -- What of a folder's parts is read for a load under given names: of the parts that have a batch of such a name all, and of the others
 -- their deletions alone.
-use Rattle.std.specs.Prelude.{◌≡◌, ℕ, ◌+◌, ◌≤◌, length, Option, Some, None, Result, Ok, Err, IsTrue}
+use Rattle.std.specs.Prelude.{◌≡◌, ◌⊎◌, ℕ, ◌+◌, ◌≤◌, false, List, length, Option, Some, None, Result, Ok, Err, IsTrue}
 use Rattle.std.specs.FinMap as map
+use Rattle.std.specs.FinSet as set
+use Rattle.std.specs.List.{list_any}
+use Rattle.table_model.specs.Name.{row_name_cmp}
 use Rattle.table_model.specs.State.{Batch}
+use Rattle.table_model.specs.Table.{Table}
 use Rattle.table_model.specs.declared.names.BatchName.{BatchName}
 use Rattle.table_model.specs.declared.refusal.Refusal.{Refusal}
 use Rattle.table_model.specs.declared.refusal.Refusal.TheVariants.{Memory}
 use Rattle.column_file.specs.Input.{IsUnread}
+use Rattle.part_skim.specs.Skimming.{skim_in}
+use Rattle.replica_reading.specs.Held.{held_in}
 use Rattle.replica_store.specs.Replica.{Replica, batch_limit}
 use Rattle.replica_commands.specs.Loads.{LoadForm, is_one_of}
+use Rattle.folder_home.specs.Parts.{PartForm, IsWhole}
 use Rattle.folder_home.specs.PartsPut.{part_of_named_load}
 use Rattle.folder_home.specs.declared.fault.PartFault.{PartFault}
 use Rattle.folder_home.specs.declared.fault.PartFault.TheVariants.{Damaged, Refused}
@@ -30,6 +37,15 @@ AnswersLoads first count known whole = (load : LoadForm) → length load.batches
 pub record IsEnough (first : BatchName) (count : ℕ) (known : Replica) (batches : ℕ) (whole : Replica) : Type 0 where
   pub knows : KnowsEnough first count known whole
   pub counted : map.len whole.state.batches ≤ batches
+
+-- Without its values a file has these batches, and none of them has one of a number of consecutive names from a first one on.
+abbrev pub HasNoneOf : BatchName → ℕ → List ℕ → Type 0
+HasNoneOf first count bytes =
+    (found : Table × (List BatchName × set.FinSet row_name_cmp)) × (skim_in bytes ≡ Ok found) × (list_any (is_one_of first count) found.1.0 ≡ false)
+
+-- This is so; or the bytes of a part are those of its name, and this is all that they hold.
+abbrev pub IsOpenedOr : Type 0 → PartForm → Replica → Type 0
+IsOpenedOr So part held = So ⊎ (IsWhole part × (held_in part.bytes ≡ Ok held))
 
 -- a fault that is told of any part: out of memory, or a failed read
 abbrev pub IsUnreadPart : PartFault → Type 0

@@ -3,6 +3,7 @@ ghost use Rattle.std.specs.Prelude.{◌≡◌, IfOk, string_bytes, Decides};
 ghost use Rattle.folder_home.specs.PartName.{name_by, part_name, is_digit, is_part_name};
 ghost use Rattle.std.specs.List.{list_all};
 
+use replica_reading::first_digits;
 use sha2::{Digest, Sha512};
 use std::alloc::{AllocError, Global};
 use table_model::same_text;
@@ -17,7 +18,7 @@ const ENDING: [u8; 6] = *b".lanes";
 pub(crate) fn name_by(alloc: Global, digest: &[u8; 64]) -> Result<String, AllocError>
     ensures { IfOk result (λ name. string_bytes name ≡ name_by digest.now) }
 {
-    let mut name = hex::encode(alloc, &digest[..16])?;
+    let mut name = first_digits(alloc, digest)?;
     name.push_str(".lanes")?;
     Ok(name)
 }

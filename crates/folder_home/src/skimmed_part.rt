@@ -1,13 +1,13 @@
 //! What of a part is read for a load under given names.
-ghost use Rattle.std.specs.Prelude.{◌≡◌, IfErr, Ok};
+ghost use Rattle.std.specs.Prelude.{◌≡◌, IfErr, IfOk, IfSome, Ok};
 ghost use Rattle.std.specs.List.{list_any};
 ghost use Rattle.table_model.specs.declared.refusal.Refusal.TheVariants.{Memory};
 ghost use Rattle.replica_commands.specs.Loads.{is_one_of};
 ghost use Rattle.replica_reading.specs.Held.{held_in};
 ghost use Rattle.replica_store.specs.Replica.{Replica};
 ghost use Rattle.folder_home.specs.PartReads.{IsListed, is_refusal_of_part};
-ghost use Rattle.folder_home.specs.Parts.{IsWhole};
-ghost use Rattle.folder_home.specs.Skims.{SkimsDeletions, SkimsPart};
+ghost use Rattle.folder_home.specs.Parts.{IsFaultOf, IsWhole};
+ghost use Rattle.folder_home.specs.Skims.{HasNoneOf, IsOpenedOr, SkimsDeletions, SkimsPart};
 
 use crate::fault::PartFault;
 use crate::joining::open_part;
@@ -35,7 +35,7 @@ impl LoadNames {
     }
 
     /// Whether one of some names is one of them.
-    fn holds_any(&self, names: &[BatchName]) -> bool
+    pub fn holds_any(&self, names: &[BatchName]) -> bool
         ensures { result ≡ list_any (is_one_of self.now.first self.now.count) names.now }
     {
         names.iter().any(|name| self.holds(*name))
@@ -56,6 +56,7 @@ fn skim_deletions(
     names: LoadNames,
 ) -> Result<Option<SkimmedPart>, Refusal>
     ensures skimmed { (r : Replica) → held_in bytes.now ≡ Ok r → SkimsDeletions (λ part. part.store.replica) (λ part. part.batches) result names.first names.count r }
+    ensures none { IfOk result (λ found. IfSome found (λ part. HasNoneOf names.first names.count bytes.now)) }
     ensures refused { IfErr result (λ e. e ≡ Memory) }
 {
     let Ok(skimmed) = skim(alloc, bytes) else {
@@ -82,6 +83,10 @@ pub(crate) fn skim_part(
     names: LoadNames,
 ) -> Result<SkimmedPart, PartFault>
     ensures skimmed { (r : Replica) → IsWhole (record { name = name.now; bytes = bytes.now }) → held_in bytes.now ≡ Ok r → SkimsPart (λ part. part.store.replica) (λ part. part.batches) result names.first names.count r }
+    // It has no batch of these names; or its bytes were compared with its name, and it is opened.
+    ensures opened { IfOk result (λ part. IsOpenedOr (HasNoneOf names.first names.count bytes.now) (record { name = name.now; bytes = bytes.now }) part.store.replica) }
+    // A part that is refused is at fault.
+    ensures fault { IfErr result (λ fault. IsFaultOf fault (record { name = name.now; bytes = bytes.now }) (held_in bytes.now)) }
     ensures listed { IfErr result (λ fault. IsListed is_refusal_of_part fault) }
 {
     if let Some(part) = skim_deletions(alloc, bytes, names)? {

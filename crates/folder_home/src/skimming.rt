@@ -1,6 +1,6 @@
 //! What of a folder's parts is read for a load under given names: of the parts that have a batch of such a name all that they hold, and
 //! of the others their deletions alone.
-ghost use Rattle.std.specs.Prelude.{◌≡◌, ℕ, ◌+◌, ◌≤◌, Decides, IfOk, IfErr, IsTrue, Ok};
+ghost use Rattle.std.specs.Prelude.{◌≡◌, ◌⊎◌, ℕ, ◌+◌, ◌≤◌, Decides, IfOk, IfErr, IsTrue, Ok};
 ghost use Rattle.table_model.specs.Reading.{Reads};
 ghost use Rattle.table_model.specs.declared.names.BatchName.{BatchName};
 ghost use Rattle.table_model.specs.declared.refusal.Refusal.TheVariants.{Memory};
@@ -8,7 +8,7 @@ ghost use Rattle.replica_reading.specs.Held.{held_in};
 ghost use Rattle.replica_store.specs.Replica.{Replica, batch_limit, merged};
 ghost use Rattle.folder_home.specs.PartReads.{IsListed, is_refusal_of_part};
 ghost use Rattle.folder_home.specs.Parts.{IsWhole};
-ghost use Rattle.folder_home.specs.Skims.{AnswersLoads, IsEnough, IsUnreadPart, SkimsPart};
+ghost use Rattle.folder_home.specs.Skims.{AnswersLoads, HasNoneOf, IsEnough, IsUnreadPart, SkimsPart};
 
 use crate::fault::PartFault;
 use crate::part_naming::is_part;
@@ -103,6 +103,8 @@ impl Skim {
     pub fn new(alloc: Global, name: &str, bytes: &[u8], names: LoadNames) -> Result<Skim, PartFault>
         // What is read of a part that is whole is enough of it.
         ensures skimmed { (r : Replica) → IsWhole (record { name = name.now; bytes = bytes.now }) → held_in bytes.now ≡ Ok r → SkimsPart (λ skim. skim.0) (λ skim. skim.1) result names.first names.count r }
+        // It has none of the names, or its bytes were compared with its name.
+        ensures compared { IfOk result (λ skim. HasNoneOf names.first names.count bytes.now ⊎ IsWhole (record { name = name.now; bytes = bytes.now })) }
         // Which refusals there are.
         ensures listed { IfErr result (λ fault. IsListed is_refusal_of_part fault) }
     {
@@ -125,6 +127,8 @@ impl Skim {
     ) -> Result<Skim, PartFault>
         // If what was read of the parts before is enough of them, it is enough of all with this one, if that is whole.
         ensures skimmed { (held r new : Replica) → IsWhole (record { name = name.now; bytes = bytes.now }) → held_in bytes.now ≡ Ok r → merged held r ≡ Ok (tt, new) → IsEnough names.first names.count self.0 self.1 held → SkimsPart (λ skim. skim.0) (λ skim. skim.1) result names.first names.count new }
+        // It has none of the names, or its bytes were compared with its name.
+        ensures compared { IfOk result (λ skim. HasNoneOf names.first names.count bytes.now ⊎ IsWhole (record { name = name.now; bytes = bytes.now })) }
         // Which refusals there are.
         ensures listed { IfErr result (λ fault. IsListed is_refusal_of_part fault) }
     {

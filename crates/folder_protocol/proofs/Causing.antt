@@ -137,7 +137,7 @@ all_named (Ok how) name before after taken = named_taken how name before after t
 all_named (Err e) name before after taken = tt
 
 -- the same after some calls
-named_later : (how : Outcome) (name : List ℕ) (before mid after : List Call) → Follows before mid → IsNamed how name mid after → IsNamed how name before after
+pub named_later : (how : Outcome) (name : List ℕ) (before mid after : List Call) → Follows before mid → IsNamed how name mid after → IsNamed how name before after
 named_later OnDisk name before mid after first named = tt
 named_later Unsynced name before mid after first (inl done) = inl (has_later _ before mid after first done)
 named_later Unsynced name before mid after first (inr taken) = inr (has_later _ before mid after first taken)
@@ -148,6 +148,21 @@ pub all_named_later : {E : Type 0} (r : Result Outcome E) (name : List ℕ) (bef
     → IfOk r (λ how. IsNamed how name mid after) → IfOk r (λ how. IsNamed how name before after)
 all_named_later (Ok how) name before mid after first named = named_later how name before mid after first named
 all_named_later (Err e) name before mid after first named = tt
+
+-- the same between some calls more
+named_between : (how : Outcome) (name : List ℕ) (before mid after last : List Call) → Follows before mid → Follows after last → IsNamed how name mid after → IsNamed how name before last
+named_between OnDisk name before mid after last first then named = tt
+named_between Unsynced name before mid after last first then (inl done) = inl (has_before _ before after last then (has_later _ before mid after first done))
+named_between Unsynced name before mid after last first then (inr taken) = inr (has_before _ before after last then (has_later _ before mid after first taken))
+named_between Gone name before mid after last first then named = has_before _ before after last then (has_later _ before mid after first named)
+named_between Damaged name before mid after last first then named = has_before _ before after last then (has_later _ before mid after first named)
+
+-- of an answer that may not be there
+pub some_named_between : {E : Type 0} (r : Result (Option Outcome) E) (name : List ℕ) (before mid after last : List Call) → Follows before mid → Follows after last
+    → IfOk r (λ answer. IfSome answer (λ how. IsNamed how name mid after)) → IfOk r (λ answer. IfSome answer (λ how. IsNamed how name before last))
+some_named_between (Ok (Some how)) name before mid after last first then named = named_between how name before mid after last first then named
+some_named_between (Ok None) name before mid after last first then named = tt
+some_named_between (Err e) name before mid after last first then named = tt
 
 -- a cause of some answers, between some calls more
 pub cause_between : {T E : Type 0} (r : Result T E) (P : T → Type 0) (C : Call → Type 0) (before mid after last : List Call) → Follows before mid → Follows after last

@@ -2,15 +2,17 @@
 use Rattle.std.specs.Prelude.{◌≡◌, ℕ, Bool, true, false, List, [], ◌∷◌, ◌++◌, Some, None, Result, Ok, Err, OnOk, OnErr, if◌then◌else◌}
 use Rattle.std.specs.Result.{is_ok}
 use Rattle.std.specs.Str.{bytes_eq}
-use Rattle.std.proofs.Common.{refl, sym, ap, subst, ◌∙◌, inl, inr}
+use Rattle.std.proofs.Common.{refl, sym, ap, subst, ◌∙◌, inl, inr, ◌≢◌, ◌⊎◌, ⊎_elim, true, false, ℕ, Bool, None, Some, Ok, Err, Result, List, [], ◌∷◌, ◌++◌}
 use Rattle.std.proofs.lemmas.Slice.Eq.{bytes_eq-Decides}
+use Rattle.std.proofs.lemmas.Bool.{cases_Bool}
 use Rattle.folder_history.specs.Call.{Call, Read, Synced, Settled}
 use Rattle.folder_history.specs.Disk.{Among}
 use Rattle.folder_history.specs.Parts.{Parts}
-use Rattle.folder_history.specs.Turn.{Idle, Seen, Whole, synced, WasSynced, IsKept}
+use Rattle.folder_history.specs.Turn.{Idle, Seen, Whole, synced, HasRead, WasSynced, IsKept, HasMissed, IsGone}
 use Rattle.folder_protocol.specs.Causes.{FindsNone, Fails, HasCall}
 use Rattle.folder_protocol.proofs.Causing.{Follows, follows_none, follows_on, has_now, has_later, has_before}
-use Rattle.folder_protocol.specs.Keeping.{Finds, IsSyncedOrGone, IsKeptOrGone}
+use Rattle.folder_protocol.specs.Keeping.{Finds, IsSyncedOrGone, IsKeptOrGone, IsSyncedOrMissed}
+use Rattle.folder_protocol.proofs.Lines.{has_read_later}
 
 -- a part that was read and synced
 pub whole_now : (parts : Parts) (name bytes : List ℕ) (before mid after : List Call) → mid ≡ Read name (Some (Some bytes)) ∷ before → after ≡ Synced true ∷ mid → name ≡ parts.name_of bytes → WasSynced parts bytes after
@@ -66,3 +68,49 @@ any_parts = record { name_of = λ b. b; covers = λ b a. true }
 pub settle_fails : {T E : Type 0} (r : Result T E) (before mid after : List Call) → Follows before mid → after ≡ Settled (is_ok r) ∷ mid → OnErr r (HasCall Fails before after)
 settle_fails (Ok x) before mid after first is = tt
 settle_fails (Err e) before mid after first is = has_later Fails before mid after first (has_now Fails mid after (Settled false) is refl)
+
+-- ---- what was read before
+
+names_same : (n m : List ℕ) → (n ≡ m) ⊎ (n ≢ m)
+names_same n m = by (cases_Bool (bytes_eq n m))
+  where
+    by : (bytes_eq n m ≡ true) ⊎ (bytes_eq n m ≡ false) → (n ≡ m) ⊎ (n ≢ m)
+    by (inl t) = inl ((bytes_eq-Decides n m).0 t)
+    by (inr f) = inr (λ e. let wrong : true ≡ false = sym ((bytes_eq-Decides n m).1 e) ∙ f in cc)
+
+-- a read that is synced
+pub relied_now : {T E : Type 0} (r : Result T E) (parts : Parts) (name found : List ℕ) (before mid after : List Call) → mid ≡ Read name (Some (Some found)) ∷ before → after ≡ Synced (is_ok r) ∷ mid → OnOk r (IsSyncedOrMissed parts name before after)
+relied_now (Ok x) parts name found before mid after read is = λ b named has.
+    ⊎_elim
+    (λ same. inl (whole_now parts name b before mid after (read ∙ ap (λ (y : List ℕ). Read name (Some (Some y)) ∷ before) same) is named))
+    (λ other. inr (subst (λ (l : List Call). HasMissed parts b l) (sym (is ∙ ap (λ (l : List Call). Synced true ∷ l) read)) (inl (named, other, has))))
+    (names_same found b)
+relied_now (Err e) parts name found before mid after read is = tt
+
+pub missed_now : (parts : Parts) (name : List ℕ) (before after : List Call) → after ≡ Read name (Some None) ∷ before → IsSyncedOrMissed parts name before after
+missed_now parts name before after read = λ b named has. inr (subst (λ (l : List Call). HasMissed parts b l) (sym read) (inl (named, has)))
+
+missed_later : (parts : Parts) (b : List ℕ) (calls h : List Call) → HasMissed parts b h → HasMissed parts b (calls ++ h)
+missed_later parts b [] h has = has
+missed_later parts b (Read name (Some None) ∷ calls) h has = inr (missed_later parts b calls h has)
+missed_later parts b (Read name (Some (Some found)) ∷ calls) h has = inr (missed_later parts b calls h has)
+missed_later parts b (call ∷ calls) h has = missed_later parts b calls h has
+
+pub read_since : (parts : Parts) (b : List ℕ) (before after : List Call) → Follows before after → HasRead parts b before → HasRead parts b after
+read_since parts b before after (calls, is) has = subst (λ (l : List Call). HasRead parts b l) (sym is) (has_read_later parts b calls before has)
+
+-- and some calls more
+pub relied_since : (parts : Parts) (b : List ℕ) (before after : List Call) → Follows before after → WasSynced parts b before ⊎ HasMissed parts b before → WasSynced parts b after ⊎ HasMissed parts b after
+relied_since parts b before after (calls, is) (inl was) = inl (synced_since parts b before after (calls, is) was)
+relied_since parts b before after (calls, is) (inr has) = inr (subst (λ (l : List Call). HasMissed parts b l) (sym is) (missed_later parts b calls before has))
+
+-- and once the folder is synced
+pub relied_settled : {T E : Type 0} (r : Result T E) (parts : Parts) (names : List (List ℕ)) (before mid after : List Call) → after ≡ Settled (is_ok r) ∷ mid
+    → ((name : List ℕ) → Among name names → IsSyncedOrMissed parts name before mid)
+    → OnOk r ((name : List ℕ) → Among name names → (b : List ℕ) → name ≡ parts.name_of b → HasRead parts b before → IsKept parts b after ⊎ IsGone parts b after)
+relied_settled (Ok x) parts names before mid after is each = λ name among b named has.
+    ⊎_elim
+    (λ was. inl (subst (λ (l : List Call). IsKept parts b l) (sym is) (inl was)))
+    (λ missed. inr (subst (λ (l : List Call). IsGone parts b l) (sym is) (inl missed)))
+    (each name among b named has)
+relied_settled (Err e) parts names before mid after is each = tt

@@ -3,4 +3,7 @@ pub mod ReadLines
 pub mod Causing
 pub mod Kept
 pub mod TakeLines
+pub mod Linking
+pub mod Placed
+pub mod Removals
 mod Temporaries

@@ -1,11 +1,11 @@
 -- How what is taken leads on.
-use Rattle.std.proofs.Common.{◌≡◌, ◌⊎◌, inl, inr, ⊎_elim, ℕ, true, Result, Ok, Err, OnOk, IfOk, IfSome, Option, Some, None, List, ◌∷◌, ap, sym, ◌∙◌, subst}
+use Rattle.std.proofs.Common.{◌≡◌, ◌⊎◌, inl, inr, ⊎_elim, ℕ, true, Result, Ok, Err, OnOk, IfOk, Option, Some, List, ◌∷◌, ap, sym, ◌∙◌, subst}
 use Rattle.folder_history.specs.Call.{Call, Unlocked, Read}
 use Rattle.folder_history.specs.Disk.{Among}
 use Rattle.folder_history.specs.Parts.{Parts, IsNoPart}
 use Rattle.folder_history.specs.Turn.{Gave, Stage, Stored, Guarded, IsStored, stage_of, unguarded, listing_of, HasReadSince}
 use Rattle.folder_protocol.specs.Reads.{KeepsRead, HasFound}
-use Rattle.folder_protocol.specs.Taking.{IsTaken, AreReadSince, HasListed, HasOnlyPassed, Gives, UntakenCause}
+use Rattle.folder_protocol.specs.Taking.{IsTaken, AreReadSince, UntakenCause}
 use Rattle.folder_protocol.specs.declared.putting.Outcome.{Outcome}
 use Rattle.folder_protocol.specs.declared.putting.Outcome.TheVariants.{OnDisk}
 use Rattle.folder_protocol.specs.declared.taking.Untaken.{Untaken}
@@ -52,25 +52,6 @@ pub untaken_before : {E : Type 0} (fault : Untaken E) (before mid after : List C
 untaken_before Gone before mid after then cause = (cause.0, has_before _ before mid after then cause.1)
 untaken_before (Failed error) before mid after then cause = has_before _ before mid after then cause
 untaken_before (Refused fault) before mid after then cause = tt
-
--- a listing, between some calls more
-pub listed_between : (before mid after last : List Call) → Follows before mid → Follows after last → HasListed mid after → HasListed before last
-listed_between before mid after last first then (names, has) = (names, has_before (Gives names) before after last then (has_later (Gives names) before mid after first has))
-
-pub passed_between : (P : List ℕ → Type 0) (before mid after last : List Call) → Follows before mid → Follows after last → HasOnlyPassed P mid after → HasOnlyPassed P before last
-passed_between P before mid after last first then (names, has, each) = (names, has_before (Gives names) before after last then (has_later (Gives names) before mid after first has), each)
-
--- the same of an answer
-pub all_listed_between : {V E : Type 0} (r : Result (Option V) E) (before mid after last : List Call) → Follows before mid → Follows after last
-    → IfOk r (λ answer. answer ≡ None → HasListed mid after) → IfOk r (λ answer. answer ≡ None → HasListed before last)
-all_listed_between (Ok answer) before mid after last first then listed = λ none. listed_between before mid after last first then (listed none)
-all_listed_between (Err e) before mid after last first then listed = tt
-
-pub all_passed_between : {V E : Type 0} (r : Result (Option V) E) (P : List ℕ → Type 0) (before mid after last : List Call) → Follows before mid → Follows after last
-    → IfOk r (λ answer. IfSome answer (λ how. HasOnlyPassed P mid after)) → IfOk r (λ answer. IfSome answer (λ how. HasOnlyPassed P before last))
-all_passed_between (Ok (Some how)) P before mid after last first then passed = passed_between P before mid after last first then passed
-all_passed_between (Ok None) P before mid after last first then passed = tt
-all_passed_between (Err e) P before mid after last first then passed = tt
 
 -- a part that is stored stays so when the lock is let go
 pub stored_unlocked : {E : Type 0} (r : Result (Option Outcome) E) (parts : Parts) (bytes : List ℕ) (mid after : List Call) → after ≡ Unlocked ∷ mid

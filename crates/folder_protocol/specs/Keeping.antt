@@ -3,7 +3,7 @@ use Rattle.std.specs.Prelude.{◌≡◌, ◌⊎◌, ℕ, List, Some}
 use Rattle.folder_history.specs.Call.{Call, Read}
 use Rattle.folder_history.specs.Disk.{Among}
 use Rattle.folder_history.specs.Parts.{Parts}
-use Rattle.folder_history.specs.Turn.{WasSynced, IsKept}
+use Rattle.folder_history.specs.Turn.{HasRead, WasSynced, IsKept, HasMissed, IsGone}
 use Rattle.folder_protocol.specs.Causes.{FindsNone, HasCall}
 
 -- the file of this name had these bytes
@@ -24,3 +24,11 @@ IsKeptOrGone parts name before after =
 -- so is each of these names
 abbrev pub AreKept : Parts → List (List ℕ) → List Call → List Call → Type 0
 AreKept parts names before after = (name : List ℕ) → Among name names → IsKeptOrGone parts name before after
+
+-- A part of this name that was read before was read again and synced; or it was gone, or other bytes had its name.
+abbrev pub IsSyncedOrMissed : Parts → List ℕ → List Call → List Call → Type 0
+IsSyncedOrMissed parts name before after = (bytes : List ℕ) → name ≡ parts.name_of bytes → HasRead parts bytes before → WasSynced parts bytes after ⊎ HasMissed parts bytes after
+
+-- Each part of these names that was read before is kept, or is gone, as the laws speak of both: it is safe.
+abbrev pub AreReliedOn : Parts → List (List ℕ) → List Call → List Call → Type 0
+AreReliedOn parts names before after = (name : List ℕ) → Among name names → (bytes : List ℕ) → name ≡ parts.name_of bytes → HasRead parts bytes before → IsKept parts bytes after ⊎ IsGone parts bytes after

@@ -6,3 +6,4 @@ pub mod Keeping
 pub mod Taking
 pub mod Temporary
 pub mod Sweeping
+pub mod Linking

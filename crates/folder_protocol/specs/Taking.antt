@@ -1,6 +1,6 @@
 -- What is taken of the parts of a folder, and why not all are.
 use Rattle.std.specs.Prelude.{◌≡◌, ◌⊎◌, ℕ, List, [], ◌∷◌, Some}
-use Rattle.folder_history.specs.Call.{Call, Listed, Read}
+use Rattle.folder_history.specs.Call.{Call, Read}
 use Rattle.folder_history.specs.Disk.{Among}
 use Rattle.folder_history.specs.Parts.{Parts}
 use Rattle.folder_history.specs.Turn.{HasReadSince}
@@ -21,19 +21,6 @@ abbrev pub UntakenCause : {E : Type 0} → Untaken E → List Call → List Call
 UntakenCause Gone before after = (name : List ℕ) × HasCall (FindsNone name) before after
 UntakenCause (Failed error) before after = HasCall Fails before after
 UntakenCause (Refused fault) before after = Unit {0}
-
--- a listing gave these names
-abbrev pub Gives : List (List ℕ) → Call → Type 0
-Gives names (Listed answer) = answer ≡ Some names
-Gives names call = ⊥
-
--- a listing was answered between two histories
-abbrev pub HasListed : List Call → List Call → Type 0
-HasListed before after = (names : List (List ℕ)) × HasCall (Gives names) before after
-
--- It gave only names that may be passed over.
-abbrev pub HasOnlyPassed : (List ℕ → Type 0) → List Call → List Call → Type 0
-HasOnlyPassed passes before after = (names : List (List ℕ)) × HasCall (Gives names) before after × ((name : List ℕ) → Among name names → passes name)
 
 -- the bytes of the files that were read, the newest first
 abbrev pub bytes_read : List Call → List (List ℕ)

@@ -6,8 +6,8 @@ ghost use Rattle.folder_history.specs.Disk.{Among};
 ghost use Rattle.folder_history.specs.Parts.{Parts, IsNoPart};
 ghost use Rattle.folder_history.specs.Turn.{Ready, IsStored, stage_of};
 ghost use Rattle.folder_protocol.specs.Goes.{GoesInTurn};
-ghost use Rattle.folder_protocol.specs.Causes.{Fails, HasCall, LookCause};
-ghost use Rattle.folder_protocol.specs.Taking.{HasListed, HasOnlyPassed};
+ghost use Rattle.folder_protocol.specs.Causes.{Fails, HasCall, LookCause, IsNamed};
+ghost use Rattle.folder_protocol.specs.Linking.{LinksOnly, LinksNone, WasSo, Watches, Each, One};
 
 use crate::Folder;
 use crate::putting::{Outcome, place, write_new};
@@ -32,12 +32,20 @@ pub fn put_judged<F: Folder, T: Taker>(
     ensures in_turn { (parts : Parts) → name.now ≡ parts.name_of bytes.now → IsNoPart parts temporary.now → GoesInTurn parts (F.history folder.old) (F.history folder.new) }
     // Once it is on the disk it is stored.
     ensures stored { (parts : Parts) → name.now ≡ parts.name_of bytes.now → IsNoPart parts temporary.now → IfOk result (λ answer. answer ≡ Some Outcome.OnDisk → IsStored parts bytes.now (F.history folder.new)) }
-    // It was given its name only if all that a listing under the lock gave may be passed over.
-    ensures judged { (parts : Parts) → name.now ≡ parts.name_of bytes.now → IsNoPart parts temporary.now → IfOk result (λ answer. IfSome answer (λ how. HasOnlyPassed (T.passes judge.now) (F.history folder.old) (F.history folder.new))) }
-    // Any other answer has its cause: a sync that failed, no file, or other bytes; None a listing; and an error a call that failed.
+    // Any other answer but None has its cause: a sync that failed, no file, or other bytes; and so has an error: a call that failed.
     ensures cause { IfOk result (λ answer. IfSome answer (λ how. LookCause how name.now bytes.now (F.history folder.old) (F.history folder.new))) }
-    ensures overtaken { IfOk result (λ answer. answer ≡ None → HasListed (F.history folder.old) (F.history folder.new)) }
     ensures fails { OnErr result (HasCall Fails (F.history folder.old) (F.history folder.new)) }
+    // If it answers what came of the part, the file was given its name, or another file had it.
+    ensures named { IfOk result (λ answer. IfSome answer (λ how. IsNamed how name.now (F.history folder.old) (F.history folder.new))) }
+    // Each call that was to give a file a name was made under the exclusive lock, which was had since the beginning of a listing that gave
+    // only names that may be passed over, whatever the answer is.
+    ensures links { LinksOnly (Watches (Each (T.passes judge.now))) (F.history folder.old) (F.history folder.new) }
+    // There was such a listing, if the answer is not None; and None if a listing under that lock gave a name that is wanted. Then no file was given a name.
+    ensures watched { IfOk result (λ answer. IfSome answer (λ how. WasSo (Watches (Each (T.passes judge.now))) (F.history folder.old) (F.history folder.new))) }
+    ensures wanted { IfOk result (λ answer. answer ≡ None → WasSo (Watches (One (T.wanted judge.now))) (F.history folder.old) (F.history folder.new)) }
+    ensures unlinked { IfOk result (λ answer. answer ≡ None → LinksNone (F.history folder.old) (F.history folder.new)) }
+    // It leaves no lock.
+    ensures unlocked { lock_of (F.history folder.old) ≡ None → lock_of (F.history folder.new) ≡ None }
 {
     match write_new(folder, temporary, bytes) {
         Ok(()) => lock_and_put(alloc, folder, temporary, name, bytes, judge),
@@ -59,10 +67,14 @@ fn lock_and_put<F: Folder, T: Taker>(
 ) -> io::Result<Option<Outcome>>
     ensures in_turn { (parts : Parts) → name.now ≡ parts.name_of bytes.now → IsNoPart parts temporary.now → stage_of parts (F.history folder.old) ≡ Ready temporary.now bytes.now → GoesInTurn parts (F.history folder.old) (F.history folder.new) }
     ensures stored { (parts : Parts) → name.now ≡ parts.name_of bytes.now → stage_of parts (F.history folder.old) ≡ Ready temporary.now bytes.now → IfOk result (λ answer. answer ≡ Some Outcome.OnDisk → IsStored parts bytes.now (F.history folder.new)) }
-    ensures judged { (parts : Parts) → name.now ≡ parts.name_of bytes.now → IsNoPart parts temporary.now → stage_of parts (F.history folder.old) ≡ Ready temporary.now bytes.now → IfOk result (λ answer. IfSome answer (λ how. HasOnlyPassed (T.passes judge.now) (F.history folder.old) (F.history folder.new))) }
     ensures cause { IfOk result (λ answer. IfSome answer (λ how. LookCause how name.now bytes.now (F.history folder.old) (F.history folder.new))) }
-    ensures overtaken { IfOk result (λ answer. answer ≡ None → HasListed (F.history folder.old) (F.history folder.new)) }
     ensures fails { OnErr result (HasCall Fails (F.history folder.old) (F.history folder.new)) }
+    ensures named { IfOk result (λ answer. IfSome answer (λ how. IsNamed how name.now (F.history folder.old) (F.history folder.new))) }
+    ensures links { LinksOnly (Watches (Each (T.passes judge.now))) (F.history folder.old) (F.history folder.new) }
+    ensures watched { IfOk result (λ answer. IfSome answer (λ how. WasSo (Watches (Each (T.passes judge.now))) (F.history folder.old) (F.history folder.new))) }
+    ensures wanted { IfOk result (λ answer. answer ≡ None → WasSo (Watches (One (T.wanted judge.now))) (F.history folder.old) (F.history folder.new)) }
+    ensures unlinked { IfOk result (λ answer. answer ≡ None → LinksNone (F.history folder.old) (F.history folder.new)) }
+    ensures unlocked { lock_of (F.history folder.new) ≡ None }
 {
     match folder.lock() {
         Ok(()) => {
@@ -88,10 +100,13 @@ fn look_and_put<F: Folder, T: Taker>(
 ) -> io::Result<Option<Outcome>>
     ensures in_turn { (parts : Parts) → name.now ≡ parts.name_of bytes.now → IsNoPart parts temporary.now → stage_of parts (F.history folder.old) ≡ Ready temporary.now bytes.now → lock_of (F.history folder.old) ≡ Some Exclusive → GoesInTurn parts (F.history folder.old) (F.history folder.new) }
     ensures stored { (parts : Parts) → name.now ≡ parts.name_of bytes.now → stage_of parts (F.history folder.old) ≡ Ready temporary.now bytes.now → IfOk result (λ answer. answer ≡ Some Outcome.OnDisk → IsStored parts bytes.now (F.history folder.new)) }
-    ensures judged { (parts : Parts) → name.now ≡ parts.name_of bytes.now → IsNoPart parts temporary.now → stage_of parts (F.history folder.old) ≡ Ready temporary.now bytes.now → IfOk result (λ answer. IfSome answer (λ how. HasOnlyPassed (T.passes judge.now) (F.history folder.old) (F.history folder.new))) }
     ensures cause { IfOk result (λ answer. IfSome answer (λ how. LookCause how name.now bytes.now (F.history folder.old) (F.history folder.new))) }
-    ensures overtaken { IfOk result (λ answer. answer ≡ None → HasListed (F.history folder.old) (F.history folder.new)) }
     ensures fails { OnErr result (HasCall Fails (F.history folder.old) (F.history folder.new)) }
+    ensures named { IfOk result (λ answer. IfSome answer (λ how. IsNamed how name.now (F.history folder.old) (F.history folder.new))) }
+    ensures links { lock_of (F.history folder.old) ≡ Some Exclusive → LinksOnly (Watches (Each (T.passes judge.now))) (F.history folder.old) (F.history folder.new) }
+    ensures watched { lock_of (F.history folder.old) ≡ Some Exclusive → IfOk result (λ answer. IfSome answer (λ how. WasSo (Watches (Each (T.passes judge.now))) (F.history folder.old) (F.history folder.new))) }
+    ensures wanted { lock_of (F.history folder.old) ≡ Some Exclusive → IfOk result (λ answer. answer ≡ None → WasSo (Watches (One (T.wanted judge.now))) (F.history folder.old) (F.history folder.new)) }
+    ensures unlinked { IfOk result (λ answer. answer ≡ None → LinksNone (F.history folder.old) (F.history folder.new)) }
 {
     match is_judged(alloc, folder, judge) {
         Ok(true) => match place(alloc, folder, temporary, name, bytes) {
@@ -114,9 +129,10 @@ fn is_judged<F: Folder, T: Taker>(alloc: Global, folder: &mut F, judge: &T) -> i
     ensures in_turn { (parts : Parts) → lock_of (F.history folder.old) ≡ Some Exclusive → GoesInTurn parts (F.history folder.old) (F.history folder.new) }
     ensures follows { (calls : List Call) × (F.history folder.new ≡ calls ++ F.history folder.old) }
     ensures stays { (parts : Parts) → stage_of parts (F.history folder.new) ≡ stage_of parts (F.history folder.old) }
-    ensures judged { IfOk result (λ passed. passed ≡ true → HasOnlyPassed (T.passes judge.now) (F.history folder.old) (F.history folder.new)) }
-    ensures listed { IfOk result (λ passed. HasListed (F.history folder.old) (F.history folder.new)) }
     ensures fails { OnErr result (HasCall Fails (F.history folder.old) (F.history folder.new)) }
+    ensures links { LinksNone (F.history folder.old) (F.history folder.new) }
+    ensures watched { lock_of (F.history folder.old) ≡ Some Exclusive → IfOk result (λ passed. passed ≡ true → Watches (Each (T.passes judge.now)) (F.history folder.new)) }
+    ensures wanted { lock_of (F.history folder.old) ≡ Some Exclusive → IfOk result (λ passed. passed ≡ false → Watches (One (T.wanted judge.now)) (F.history folder.new)) }
 {
     let listed = folder.list(alloc)?;
     Ok(wants_none(judge, listed.as_slice()))
@@ -124,7 +140,8 @@ fn is_judged<F: Folder, T: Taker>(alloc: Global, folder: &mut F, judge: &T) -> i
 
 /// Whether none of these names is wanted.
 fn wants_none<T: Taker>(judge: &T, names: &[String]) -> bool
-    ensures { result ≡ true → (name : List ℕ) → Among name (map string_bytes names.now) → T.passes judge.now name }
+    ensures passing { result ≡ true → Each (T.passes judge.now) (map string_bytes names.now) }
+    ensures wanting { result ≡ false → One (T.wanted judge.now) (map string_bytes names.now) }
 {
     let mut at = 0;
     while at < names.len() {

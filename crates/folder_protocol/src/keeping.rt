@@ -4,7 +4,8 @@ ghost use Rattle.std.specs.String.{string_bytes};
 ghost use Rattle.folder_history.specs.Parts.{Parts};
 ghost use Rattle.folder_protocol.specs.Causes.{Fails, HasCall};
 ghost use Rattle.folder_protocol.specs.Goes.{GoesInTurn};
-ghost use Rattle.folder_protocol.specs.Keeping.{IsSyncedOrGone, AreKept};
+ghost use Rattle.folder_protocol.specs.Linking.{GoesPlainly};
+ghost use Rattle.folder_protocol.specs.Keeping.{IsSyncedOrGone, AreKept, IsSyncedOrMissed, AreReliedOn};
 
 use crate::Folder;
 use std::alloc::Global;
@@ -19,6 +20,10 @@ pub fn keep_all<F: Folder>(alloc: Global, folder: &mut F, names: &[String]) -> i
     ensures kept { (parts : Parts) → OnOk result (AreKept parts (map string_bytes names.now) (F.history folder.old) (F.history folder.new)) }
     // An error has its cause: a call that failed.
     ensures fails { OnErr result (HasCall Fails (F.history folder.old) (F.history folder.new)) }
+    // It gives no name, changes no lock, and lists nothing.
+    ensures plain { GoesPlainly (F.history folder.old) (F.history folder.new) }
+    // Each part of them that was read before is kept, or is gone and covered by another: either way it is safe.
+    ensures safe { (parts : Parts) → OnOk result (AreReliedOn parts (map string_bytes names.now) (F.history folder.old) (F.history folder.new)) }
 {
     let mut at = 0;
     while at < names.len() {
@@ -33,6 +38,8 @@ fn keep_one<F: Folder>(alloc: Global, folder: &mut F, name: &str) -> io::Result<
     ensures in_turn { (parts : Parts) → GoesInTurn parts (F.history folder.old) (F.history folder.new) }
     ensures synced { (parts : Parts) → OnOk result (IsSyncedOrGone parts name.now (F.history folder.old) (F.history folder.new)) }
     ensures fails { OnErr result (HasCall Fails (F.history folder.old) (F.history folder.new)) }
+    ensures plain { GoesPlainly (F.history folder.old) (F.history folder.new) }
+    ensures missed { (parts : Parts) → OnOk result (IsSyncedOrMissed parts name.now (F.history folder.old) (F.history folder.new)) }
 {
     match folder.read(alloc, name)? {
         Some(_found) => folder.sync(),

@@ -1,10 +1,13 @@
 //! How the names in a folder are listed.
-ghost use Rattle.std.specs.Prelude.{◌≡◌, map, IfOk, OnErr};
+ghost use Rattle.std.specs.Prelude.{◌≡◌, None, map, IfOk, OnErr};
 ghost use Rattle.std.specs.String.{string_bytes};
+ghost use Rattle.folder_history.specs.Call.{lock_of};
 ghost use Rattle.folder_history.specs.Parts.{Parts};
 ghost use Rattle.folder_history.specs.Turn.{Gave, listing_of};
 ghost use Rattle.folder_protocol.specs.Goes.{GoesInTurn};
 ghost use Rattle.folder_protocol.specs.Causes.{Fails, HasCall};
+ghost use Rattle.folder_protocol.specs.Linking.{LinksNone};
+ghost use Rattle.folder_protocol.specs.Sweeping.{RemovesOnly};
 
 use crate::Folder;
 use std::alloc::Global;
@@ -19,6 +22,11 @@ pub fn list_names<F: Folder>(alloc: Global, folder: &mut F) -> io::Result<Vec<St
     ensures listed { IfOk result (λ names. listing_of (F.history folder.new) ≡ Gave (map string_bytes names.items)) }
     // An error has its cause: a call that failed.
     ensures fails { OnErr result (HasCall Fails (F.history folder.old) (F.history folder.new)) }
+    // It leaves no lock, whatever the answer is.
+    ensures unlocked { lock_of (F.history folder.new) ≡ None }
+    // It gives no name, and removes none.
+    ensures unlinked { LinksNone (F.history folder.old) (F.history folder.new) }
+    ensures unremoved { RemovesOnly (λ name. ⊥) (F.history folder.old) (F.history folder.new) }
 {
     folder.lock_shared()?;
     let listed = folder.list(alloc);

@@ -5,6 +5,7 @@ ghost use Rattle.folder_history.specs.Parts.{Parts, IsNoPart};
 ghost use Rattle.folder_history.specs.Turn.{Filled, Ready, Guarded, IsStored, stage_of};
 ghost use Rattle.folder_protocol.specs.Goes.{GoesInTurn};
 ghost use Rattle.folder_protocol.specs.Causes.{Fails, HasCall, LookCause, IsNamed};
+ghost use Rattle.folder_protocol.specs.Linking.{GoesPlainly, LinksOnly};
 
 use crate::Folder;
 use std::alloc::Global;
@@ -40,6 +41,8 @@ pub fn put<F: Folder>(
     ensures fails { OnErr result (HasCall Fails (F.history folder.old) (F.history folder.new)) }
     // The file was given its name, or another file had it.
     ensures named { IfOk result (λ how. IsNamed how name.now (F.history folder.old) (F.history folder.new)) }
+    // It changes no lock.
+    ensures locks { lock_of (F.history folder.new) ≡ lock_of (F.history folder.old) }
 {
     match write_new(folder, temporary, bytes) {
         Ok(()) => place(alloc, folder, temporary, name, bytes),
@@ -53,6 +56,7 @@ pub fn put<F: Folder>(
 /// Writes the bytes to a new file, and has them on the disk.
 pub fn write_new<F: Folder>(folder: &mut F, temporary: &str, bytes: &[u8]) -> io::Result<()>
     ensures in_turn { (parts : Parts) → IsNoPart parts temporary.now → GoesInTurn parts (F.history folder.old) (F.history folder.new) }
+    ensures plain { GoesPlainly (F.history folder.old) (F.history folder.new) }
     ensures ready { (parts : Parts) → OnOk result (stage_of parts (F.history folder.new) ≡ Ready temporary.now bytes.now) }
     ensures fails { OnErr result (HasCall Fails (F.history folder.old) (F.history folder.new)) }
 {
@@ -64,6 +68,7 @@ pub fn write_new<F: Folder>(folder: &mut F, temporary: &str, bytes: &[u8]) -> io
 /// Adds the bytes to the open file, in as many pieces as it takes.
 fn write_all<F: Folder>(folder: &mut F, bytes: &[u8]) -> io::Result<()>
     ensures in_turn { (parts : Parts) (temporary : List ℕ) → stage_of parts (F.history folder.old) ≡ Filled temporary [] → GoesInTurn parts (F.history folder.old) (F.history folder.new) }
+    ensures plain { GoesPlainly (F.history folder.old) (F.history folder.new) }
     ensures filled { (parts : Parts) (temporary : List ℕ) → stage_of parts (F.history folder.old) ≡ Filled temporary [] → OnOk result (stage_of parts (F.history folder.new) ≡ Filled temporary bytes.now) }
     ensures fails { OnErr result (HasCall Fails (F.history folder.old) (F.history folder.new)) }
 {
@@ -91,6 +96,8 @@ pub fn place<F: Folder>(
     ensures cause { IfOk result (λ how. LookCause how name.now bytes.now (F.history folder.old) (F.history folder.new)) }
     ensures fails { OnErr result (HasCall Fails (F.history folder.old) (F.history folder.new)) }
     ensures named { IfOk result (λ how. IsNamed how name.now (F.history folder.old) (F.history folder.new)) }
+    ensures links { LinksOnly (λ calls. calls ≡ F.history folder.old) (F.history folder.old) (F.history folder.new) }
+    ensures locks { lock_of (F.history folder.new) ≡ lock_of (F.history folder.old) }
 {
     let linked = folder.link(temporary, name);
     let _ = folder.remove(temporary);
@@ -118,6 +125,8 @@ pub fn keep<F: Folder>(
     // Any other answer has its cause: a sync that failed, no file, or other bytes; and so has an error: a call that failed.
     ensures cause { IfOk result (λ how. LookCause how name.now bytes.now (F.history folder.old) (F.history folder.new)) }
     ensures fails { OnErr result (HasCall Fails (F.history folder.old) (F.history folder.new)) }
+    // It gives no name, changes no lock, and lists nothing.
+    ensures plain { GoesPlainly (F.history folder.old) (F.history folder.new) }
 {
     let found = match folder.read(alloc, name)? {
         Some(found) => found,

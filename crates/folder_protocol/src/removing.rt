@@ -1,11 +1,12 @@
 //! How a pack removes what it has joined.
-ghost use Rattle.std.specs.Prelude.{◌≡◌, ℕ, List, map, Some, OnOk, OnErr, IfOk};
+ghost use Rattle.std.specs.Prelude.{◌≡◌, ℕ, List, map, Some, None, OnOk, OnErr, IfOk};
 ghost use Rattle.std.specs.String.{string_bytes};
 ghost use Rattle.folder_history.specs.Call.{Exclusive, lock_of};
 ghost use Rattle.folder_history.specs.Parts.{Parts};
-ghost use Rattle.folder_history.specs.Turn.{Guarded, stage_of};
+ghost use Rattle.folder_history.specs.Turn.{Guarded, IsStored, stage_of};
 ghost use Rattle.folder_protocol.specs.Goes.{GoesInTurn, AreJoined, AreRemoved};
 ghost use Rattle.folder_protocol.specs.Causes.{Fails, HasCall, LookCause};
+ghost use Rattle.folder_protocol.specs.Linking.{GoesPlainly, LinksNone};
 
 use crate::Folder;
 use crate::putting::{Outcome, keep};
@@ -29,6 +30,11 @@ pub fn remove_joined<F: Folder>(
     // Any other answer has its cause: a sync that failed, no file, or other bytes; and so has an error: a call that failed.
     ensures cause { IfOk result (λ how. LookCause how name.now bytes.now (F.history folder.old) (F.history folder.new)) }
     ensures fails { OnErr result (HasCall Fails (F.history folder.old) (F.history folder.new)) }
+    // Once it is on the disk it is stored.
+    ensures stored { (parts : Parts) → name.now ≡ parts.name_of bytes.now → IfOk result (λ how. how ≡ Outcome.OnDisk → IsStored parts bytes.now (F.history folder.new)) }
+    // It gives no name, and leaves no lock.
+    ensures unlinked { LinksNone (F.history folder.old) (F.history folder.new) }
+    ensures unlocked { lock_of (F.history folder.new) ≡ None }
 {
     folder.lock()?;
     let outcome = look_and_remove(alloc, folder, name, bytes, joined);
@@ -48,6 +54,8 @@ pub fn look_and_remove<F: Folder>(
     ensures gone { IfOk result (λ how. how ≡ Outcome.OnDisk → AreRemoved (map string_bytes joined.now) (F.history folder.old) (F.history folder.new)) }
     ensures cause { IfOk result (λ how. LookCause how name.now bytes.now (F.history folder.old) (F.history folder.new)) }
     ensures fails { OnErr result (HasCall Fails (F.history folder.old) (F.history folder.new)) }
+    ensures guarded { (parts : Parts) → name.now ≡ parts.name_of bytes.now → lock_of (F.history folder.old) ≡ Some Exclusive → IfOk result (λ how. how ≡ Outcome.OnDisk → stage_of parts (F.history folder.new) ≡ Guarded bytes.now) }
+    ensures plain { GoesPlainly (F.history folder.old) (F.history folder.new) }
 {
     match keep(alloc, folder, name, bytes)? {
         Outcome::OnDisk => {
@@ -64,6 +72,8 @@ fn remove_each<F: Folder>(folder: &mut F, joined: &[String]) -> io::Result<()>
     ensures in_turn { (parts : Parts) (packed : List ℕ) → stage_of parts (F.history folder.old) ≡ Guarded packed → AreJoined parts packed (map string_bytes joined.now) (F.history folder.old) → GoesInTurn parts (F.history folder.old) (F.history folder.new) }
     ensures gone { OnOk result (AreRemoved (map string_bytes joined.now) (F.history folder.old) (F.history folder.new)) }
     ensures fails { OnErr result (HasCall Fails (F.history folder.old) (F.history folder.new)) }
+    ensures stays { (parts : Parts) → stage_of parts (F.history folder.new) ≡ stage_of parts (F.history folder.old) }
+    ensures plain { GoesPlainly (F.history folder.old) (F.history folder.new) }
 {
     let mut at = 0;
     while at < joined.len() {

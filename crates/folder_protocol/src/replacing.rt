@@ -1,14 +1,16 @@
 //! How a part is put in the place of those that it was made of.
-ghost use Rattle.std.specs.Prelude.{◌≡◌, List, ℕ, ◌++◌, map, false, Some, None, OnErr, IfOk, IfSome};
+ghost use Rattle.std.specs.Prelude.{◌≡◌, List, ℕ, ◌++◌, map, true, false, Some, None, OnErr, IfOk, IfSome};
 ghost use Rattle.std.specs.String.{string_bytes};
 ghost use Rattle.folder_history.specs.Call.{Call, Exclusive, lock_of};
 ghost use Rattle.folder_history.specs.Disk.{Among};
 ghost use Rattle.folder_history.specs.Parts.{Parts, IsNoPart};
-ghost use Rattle.folder_history.specs.Turn.{Ready, stage_of};
+ghost use Rattle.folder_history.specs.Turn.{Ready, IsStored, stage_of};
 ghost use Rattle.folder_protocol.specs.Goes.{GoesInTurn, AreJoined, AreRemoved};
 ghost use Rattle.folder_protocol.specs.Causes.{Fails, Lacks, HasCall, LookCause};
+ghost use Rattle.folder_protocol.specs.Linking.{LinksOnly, LinksNone, WasSo, Watches, HasEach, LacksOne};
 
 use crate::Folder;
+use crate::names::has_name;
 use crate::putting::{Outcome, write_new};
 use crate::removing::look_and_remove;
 use std::alloc::Global;
@@ -36,6 +38,16 @@ pub fn replace<F: Folder>(
     // None has its cause: a listing that lacked one of them.
     ensures overtaken { IfOk result (λ answer. answer ≡ None → HasCall (Lacks (map string_bytes joined.now)) (F.history folder.old) (F.history folder.new)) }
     ensures fails { OnErr result (HasCall Fails (F.history folder.old) (F.history folder.new)) }
+    // Once it is on the disk it is stored.
+    ensures stored { (parts : Parts) → name.now ≡ parts.name_of bytes.now → IfOk result (λ answer. answer ≡ Some Outcome.OnDisk → IsStored parts bytes.now (F.history folder.new)) }
+    // Each call that was to give a file a name was made under the exclusive lock, which was had since the beginning of a listing that gave each
+    // of them, whatever the answer is.
+    ensures links { LinksOnly (Watches (HasEach (map string_bytes joined.now))) (F.history folder.old) (F.history folder.new) }
+    // None, if a listing under that lock lacked one of them. Then no file was given a name.
+    ensures lacked { IfOk result (λ answer. answer ≡ None → WasSo (Watches (LacksOne (map string_bytes joined.now))) (F.history folder.old) (F.history folder.new)) }
+    ensures unlinked { IfOk result (λ answer. answer ≡ None → LinksNone (F.history folder.old) (F.history folder.new)) }
+    // It leaves no lock.
+    ensures unlocked { lock_of (F.history folder.old) ≡ None → lock_of (F.history folder.new) ≡ None }
 {
     match write_new(folder, temporary, bytes) {
         Ok(()) => lock_and_replace(alloc, folder, temporary, name, bytes, joined),
@@ -60,6 +72,11 @@ fn lock_and_replace<F: Folder>(
     ensures cause { IfOk result (λ answer. IfSome answer (λ how. LookCause how name.now bytes.now (F.history folder.old) (F.history folder.new))) }
     ensures overtaken { IfOk result (λ answer. answer ≡ None → HasCall (Lacks (map string_bytes joined.now)) (F.history folder.old) (F.history folder.new)) }
     ensures fails { OnErr result (HasCall Fails (F.history folder.old) (F.history folder.new)) }
+    ensures stored { (parts : Parts) → name.now ≡ parts.name_of bytes.now → IfOk result (λ answer. answer ≡ Some Outcome.OnDisk → IsStored parts bytes.now (F.history folder.new)) }
+    ensures links { LinksOnly (Watches (HasEach (map string_bytes joined.now))) (F.history folder.old) (F.history folder.new) }
+    ensures lacked { IfOk result (λ answer. answer ≡ None → WasSo (Watches (LacksOne (map string_bytes joined.now))) (F.history folder.old) (F.history folder.new)) }
+    ensures unlinked { IfOk result (λ answer. answer ≡ None → LinksNone (F.history folder.old) (F.history folder.new)) }
+    ensures unlocked { lock_of (F.history folder.new) ≡ None }
 {
     match folder.lock() {
         Ok(()) => {
@@ -88,6 +105,10 @@ fn look_and_replace<F: Folder>(
     ensures cause { IfOk result (λ answer. IfSome answer (λ how. LookCause how name.now bytes.now (F.history folder.old) (F.history folder.new))) }
     ensures overtaken { IfOk result (λ answer. answer ≡ None → HasCall (Lacks (map string_bytes joined.now)) (F.history folder.old) (F.history folder.new)) }
     ensures fails { OnErr result (HasCall Fails (F.history folder.old) (F.history folder.new)) }
+    ensures stored { (parts : Parts) → name.now ≡ parts.name_of bytes.now → lock_of (F.history folder.old) ≡ Some Exclusive → IfOk result (λ answer. answer ≡ Some Outcome.OnDisk → IsStored parts bytes.now (F.history folder.new)) }
+    ensures links { lock_of (F.history folder.old) ≡ Some Exclusive → LinksOnly (Watches (HasEach (map string_bytes joined.now))) (F.history folder.old) (F.history folder.new) }
+    ensures lacked { lock_of (F.history folder.old) ≡ Some Exclusive → IfOk result (λ answer. answer ≡ None → WasSo (Watches (LacksOne (map string_bytes joined.now))) (F.history folder.old) (F.history folder.new)) }
+    ensures unlinked { IfOk result (λ answer. answer ≡ None → LinksNone (F.history folder.old) (F.history folder.new)) }
 {
     match are_there(alloc, folder, joined) {
         Ok(true) => place_and_remove(alloc, folder, temporary, name, bytes, joined),
@@ -110,6 +131,9 @@ fn are_there<F: Folder>(alloc: Global, folder: &mut F, names: &[String]) -> io::
     ensures locked { lock_of (F.history folder.new) ≡ lock_of (F.history folder.old) }
     ensures lacking { IfOk result (λ there. there ≡ false → HasCall (Lacks (map string_bytes names.now)) (F.history folder.old) (F.history folder.new)) }
     ensures fails { OnErr result (HasCall Fails (F.history folder.old) (F.history folder.new)) }
+    ensures links { LinksNone (F.history folder.old) (F.history folder.new) }
+    ensures watched { lock_of (F.history folder.old) ≡ Some Exclusive → IfOk result (λ there. there ≡ true → Watches (HasEach (map string_bytes names.now)) (F.history folder.new)) }
+    ensures lacked { lock_of (F.history folder.old) ≡ Some Exclusive → IfOk result (λ there. there ≡ false → Watches (LacksOne (map string_bytes names.now)) (F.history folder.new)) }
 {
     let listed = folder.list(alloc)?;
     Ok(has_each(listed.as_slice(), names))
@@ -117,23 +141,17 @@ fn are_there<F: Folder>(alloc: Global, folder: &mut F, names: &[String]) -> io::
 
 /// Whether all of these names are among those that were listed.
 fn has_each(listed: &[String], names: &[String]) -> bool
-    ensures { result ≡ false → (name : List ℕ) × Among name (map string_bytes names.now) × (Among name (map string_bytes listed.now) → ⊥) }
+    ensures lacking { result ≡ false → LacksOne (map string_bytes names.now) (map string_bytes listed.now) }
+    ensures having { result ≡ true → HasEach (map string_bytes names.now) (map string_bytes listed.now) }
 {
     let mut at = 0;
     while at < names.len() {
-        if !has_name(listed, &names[at]) {
+        if !has_name(listed, names[at].as_str()) {
             return false;
         }
         at += 1;
     }
     true
-}
-
-/// Whether a name is among those that were listed, mostly in ascending order.
-fn has_name(listed: &[String], name: &String) -> bool
-    ensures { result ≡ false → Among (string_bytes name.now) (map string_bytes listed.now) → ⊥ }
-{
-    listed.binary_search(name).is_ok() || listed.contains(name)
 }
 
 /// Gives the temporary its name, has it on the disk, and then removes the parts of these names.
@@ -150,6 +168,8 @@ fn place_and_remove<F: Folder>(
     ensures cause { IfOk result (λ answer. IfSome answer (λ how. LookCause how name.now bytes.now (F.history folder.old) (F.history folder.new))) }
     ensures some { IfOk result (λ answer. answer ≡ None → ⊥) }
     ensures fails { OnErr result (HasCall Fails (F.history folder.old) (F.history folder.new)) }
+    ensures stored { (parts : Parts) → name.now ≡ parts.name_of bytes.now → lock_of (F.history folder.old) ≡ Some Exclusive → IfOk result (λ answer. answer ≡ Some Outcome.OnDisk → IsStored parts bytes.now (F.history folder.new)) }
+    ensures links { LinksOnly (λ calls. calls ≡ F.history folder.old) (F.history folder.old) (F.history folder.new) }
 {
     let linked = folder.link(temporary, name);
     let _ = folder.remove(temporary);

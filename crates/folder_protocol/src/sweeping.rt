@@ -1,13 +1,14 @@
 //! How temporaries that nobody holds any more are removed.
-ghost use Rattle.std.specs.Prelude.{◌≡◌, ◌∷◌, ◌++◌, List, ℕ, Bool, true, false, map, OnOk, OnErr};
+ghost use Rattle.std.specs.Prelude.{◌≡◌, ◌∷◌, ◌++◌, List, ℕ, Bool, true, false, None, map, OnOk, OnErr};
 ghost use Rattle.std.specs.String.{string_bytes};
-ghost use Rattle.folder_history.specs.Call.{Call, Removed};
+ghost use Rattle.folder_history.specs.Call.{Call, Removed, lock_of};
 ghost use Rattle.folder_history.specs.Disk.{Among};
 ghost use Rattle.folder_history.specs.Parts.{Parts, IsNoPart};
 ghost use Rattle.folder_history.specs.Turn.{Gave, listing_of};
 ghost use Rattle.folder_protocol.specs.Causes.{Fails, HasCall};
 ghost use Rattle.folder_protocol.specs.Goes.{GoesInTurn};
-ghost use Rattle.folder_protocol.specs.Sweeping.{Tries, HasSwept};
+ghost use Rattle.folder_protocol.specs.Linking.{GoesPlainly};
+ghost use Rattle.folder_protocol.specs.Sweeping.{Tries, HasSwept, RemovesTemporaries};
 ghost use Rattle.folder_protocol.specs.Temporary.{is_temporary};
 
 use crate::Folder;
@@ -31,8 +32,12 @@ pub fn sweep<F: Sweeps>(alloc: Global, folder: &mut F) -> io::Result<()>
     ensures in_turn { (parts : Parts) → ((name : List ℕ) → is_temporary name ≡ true → IsNoPart parts name) → GoesInTurn parts (F.history folder.old) (F.history folder.new) }
     // Each temporary that a listing under the lock gave was to be removed.
     ensures swept { OnOk result (HasSwept (F.history folder.old) (F.history folder.new)) }
+    // No other name is removed, whatever the answer is.
+    ensures only { RemovesTemporaries (F.history folder.old) (F.history folder.new) }
     // An error has its cause: a call that failed.
     ensures fails { OnErr result (HasCall Fails (F.history folder.old) (F.history folder.new)) }
+    // It leaves no lock, whatever the answer is.
+    ensures unlocked { lock_of (F.history folder.new) ≡ None }
 {
     let listed = list_names(alloc, folder)?;
     sweep_each(folder, listed.as_slice());
@@ -44,6 +49,8 @@ fn sweep_each<F: Sweeps>(folder: &mut F, names: &[String])
     ensures in_turn { (parts : Parts) → ((name : List ℕ) → is_temporary name ≡ true → IsNoPart parts name) → GoesInTurn parts (F.history folder.old) (F.history folder.new) }
     ensures listing { (listed : List (List ℕ)) → listing_of (F.history folder.old) ≡ Gave listed → listing_of (F.history folder.new) ≡ Gave listed }
     ensures swept { (name : List ℕ) → Among name (map string_bytes names.now) → is_temporary name ≡ true → HasCall (Tries name) (F.history folder.old) (F.history folder.new) }
+    ensures plain { GoesPlainly (F.history folder.old) (F.history folder.new) }
+    ensures only { RemovesTemporaries (F.history folder.old) (F.history folder.new) }
 {
     let mut at = 0;
     while at < names.len() {
@@ -58,6 +65,8 @@ fn sweep_one<F: Sweeps>(folder: &mut F, name: &str)
     ensures follows { (calls : List Call) × (F.history folder.new ≡ calls ++ F.history folder.old) }
     ensures listing { (listed : List (List ℕ)) → listing_of (F.history folder.old) ≡ Gave listed → listing_of (F.history folder.new) ≡ Gave listed }
     ensures swept { is_temporary name.now ≡ true → HasCall (Tries name.now) (F.history folder.old) (F.history folder.new) }
+    ensures plain { GoesPlainly (F.history folder.old) (F.history folder.new) }
+    ensures only { RemovesTemporaries (F.history folder.old) (F.history folder.new) }
 {
     if is_temporary(name) {
         let _ = folder.sweep(name);

@@ -1,10 +1,12 @@
 //! How the parts of a folder are read, and given to what takes them.
-ghost use Rattle.std.specs.Prelude.{◌≡◌, ◌∷◌, ◌⊎◌, List, ℕ, map, true, false, IfOk, IfErr, OnOk};
+ghost use Rattle.std.specs.Prelude.{◌≡◌, ◌∷◌, ◌⊎◌, List, ℕ, None, map, true, false, IfOk, IfErr, OnOk};
 ghost use Rattle.std.specs.String.{string_bytes};
+ghost use Rattle.folder_history.specs.Call.{lock_of};
 ghost use Rattle.folder_history.specs.Disk.{Among};
 ghost use Rattle.folder_history.specs.Parts.{Parts, IsNoPart};
 ghost use Rattle.folder_history.specs.Turn.{Gave, listing_of};
 ghost use Rattle.folder_protocol.specs.Goes.{GoesInTurn};
+ghost use Rattle.folder_protocol.specs.Linking.{GoesPlainly};
 ghost use Rattle.folder_protocol.specs.Reads.{KeepsRead, HasFound};
 ghost use Rattle.folder_protocol.specs.Taking.{IsTaken, AreReadSince, UntakenCause};
 
@@ -21,6 +23,9 @@ pub trait Taker {
     /// Which names it may pass over.
     ghost passes: { Self → List ℕ → Type 0 };
 
+    /// Which names it wants.
+    ghost wanted: { Self → List ℕ → Type 0 };
+
     /// The bytes of the parts that it has taken, the newest first.
     ghost taken: { Self → List (List ℕ) };
 
@@ -34,7 +39,8 @@ pub trait Taker {
 
     /// Whether the file of a name is to be read.
     fn wants(&self, name: &str) -> bool
-        ensures { result ≡ false → passes self.now name.now };
+        ensures passing { result ≡ false → passes self.now name.now }
+        ensures wanting { result ≡ true → wanted self.now name.now };
 
     /// Takes the part of a name, if it is the one with these bytes.
     fn take(&mut self, alloc: Global, name: &str, bytes: &[u8]) -> Result<(), Self::Fault>
@@ -69,6 +75,8 @@ pub fn take_all<F: Folder, T: Taker>(
     ensures listed { IfOk result (λ names. listing_of (F.history folder.new) ≡ Gave (map string_bytes names.items)) }
     // That not all were taken has its cause.
     ensures cause { IfErr result (λ fault. UntakenCause fault (F.history folder.old) (F.history folder.new)) }
+    // It leaves no lock, whatever the answer is.
+    ensures unlocked { lock_of (F.history folder.new) ≡ None }
 {
     let listed = match list_names(alloc, folder) {
         Ok(listed) => listed,
@@ -91,6 +99,7 @@ pub fn take_listed<F: Folder, T: Taker>(
     ensures listing { OnOk result (listing_of (F.history folder.new) ≡ listing_of (F.history folder.old)) }
     ensures taken { (parts : Parts) → parts.name_of ≡ T.name_of taker.old → OnOk result ((name : List ℕ) → Among name (map string_bytes names.now) → T.passes taker.old name ⊎ IsTaken parts (F.history folder.new) (T.taken taker.new) name) }
     ensures cause { IfErr result (λ fault. UntakenCause fault (F.history folder.old) (F.history folder.new)) }
+    ensures plain { GoesPlainly (F.history folder.old) (F.history folder.new) }
 {
     match taker.begin(names) {
         Ok(()) => take_each(alloc, folder, taker, names),
@@ -115,6 +124,8 @@ pub fn take_each<F: Folder, T: Taker>(
     // Nothing was taken but what was read.
     ensures only { (parts : Parts) → parts.name_of ≡ T.name_of taker.old → OnOk result (AreReadSince parts (T.taken taker.old) (T.taken taker.new) (F.history folder.new)) }
     ensures cause { IfErr result (λ fault. UntakenCause fault (F.history folder.old) (F.history folder.new)) }
+    // It gives no name, changes no lock, and lists nothing.
+    ensures plain { GoesPlainly (F.history folder.old) (F.history folder.new) }
 {
     let mut at = 0;
     while at < names.len() {
@@ -140,6 +151,7 @@ fn take_one<F: Folder, T: Taker>(
     ensures only { (parts : Parts) → parts.name_of ≡ T.name_of taker.old → OnOk result (AreReadSince parts (T.taken taker.old) (T.taken taker.new) (F.history folder.new)) }
     ensures one { (parts : Parts) → parts.name_of ≡ T.name_of taker.old → OnOk result (T.passes taker.old name.now ⊎ IsTaken parts (F.history folder.new) (T.taken taker.new) name.now) }
     ensures cause { IfErr result (λ fault. UntakenCause fault (F.history folder.old) (F.history folder.new)) }
+    ensures plain { GoesPlainly (F.history folder.old) (F.history folder.new) }
 {
     if !taker.wants(name) {
         return Ok(());

@@ -1,10 +1,9 @@
--- What the ends of tasks say, and that a name is among some.
-use Rattle.std.proofs.Common.{◌≡◌, ◌⊎◌, inl, inr, ⊎_elim, refl, Bool, true, false, ◌||◌, sym, ap, subst, ℕ, zero, suc, ◌<◌, slice_index_or, List, [], ◌∷◌, length, map, Option, Some, None, Result, Ok, Err, IfOk, OnOk, OnErr, arith}
+-- What the ends of tasks say.
+use Rattle.std.proofs.Common.{◌≡◌, refl, sym, ap, subst, ℕ, List, map, Option, Some, None, Result, Ok, Err, IfOk, OnOk, OnErr}
 use Rattle.std.specs.String.{string_bytes}
 use Rattle.std.specs.Global.{Global, Vec}
 use Rattle.std.specs.declared.string.String.{String}
 use Rattle.std.specs.Prelude.{IfSome}
-use Rattle.std.specs.List.{list_any}
 use Rattle.folder_history.specs.Call.{Call}
 use Rattle.folder_history.specs.Disk.{Among}
 use Rattle.folder_history.specs.Parts.{Parts}
@@ -14,28 +13,12 @@ use Rattle.folder_protocol.specs.Goes.{AreRemoved}
 use Rattle.folder_protocol.specs.Keeping.{AreKept}
 use Rattle.folder_protocol.specs.declared.putting.Outcome.{Outcome}
 use Rattle.folder_protocol.specs.declared.putting.Outcome.TheVariants.{OnDisk}
-use Rattle.folder_protocol.specs.Taking.{HasListed}
-use Rattle.folder_replay.specs.Orders.{Matter, MayTake, Caused, EndSays, HasOnlySeen, came, replaced, judged, listed, kept}
+use Rattle.folder_protocol.specs.Linking.{LinksOnly, LinksNone, Watches, Each, HasEach}
+use Rattle.folder_replay.specs.Orders.{Matter, MayTake, Caused, EndSays, HasOnlySeen, HasUnseen, came, replaced, judged, listed, kept}
 use Rattle.folder_replay.specs.declared.order.Task.{Task}
 use Rattle.folder_replay.specs.declared.order.Task.TheVariants as tasks
 use Rattle.folder_replay.specs.declared.order.End.{End}
 use Rattle.folder_replay.specs.declared.order.End.TheVariants as ends
-
-either : (a b : Bool) → (a || b) ≡ true → (a ≡ true) ⊎ (b ≡ true)
-either true b is = inl refl
-either false b is = inr is
-
--- one that a test finds is among them
-pub found_among : {X : Type 0} (f : X → List ℕ) (t : X → Bool) (name : List ℕ) → ((x : X) → t x ≡ true → f x ≡ name) → (xs : List X) → list_any t xs ≡ true → Among name (map f xs)
-found_among f t name tells [] found = cc
-found_among f t name tells (x ∷ xs) found =
-    ⊎_elim (λ is. inl (sym (tells x is))) (λ later. inr (found_among f t name tells xs later)) (either (t x) (list_any t xs) found)
-
--- and so is one at an index
-pub among_at : {X : Type 0} (f : X → List ℕ) (xs : List X) (k : ℕ) (v : X) → k < length xs → slice_index_or xs k v ≡ v → Among (f v) (map f xs)
-among_at f [] k v below is = absurd (omega (arith, below))
-among_at f (y ∷ xs) zero v below is = inl (ap f (sym is))
-among_at f (y ∷ xs) (suc k) v below is = inr (among_at f xs k v (omega (arith, below)) is)
 
 -- the same matter, whose texts are given
 pub same_matter : (m : Matter) (temporary name bytes : List ℕ) (names : List (List ℕ)) → temporary ≡ m.temporary → name ≡ m.name → bytes ≡ m.bytes → names ≡ m.names
@@ -78,41 +61,46 @@ module _ {E : Type 0} (m : Matter) (parts : Parts) (before calls : List Call) wh
   -- of a part that is put
   pub put_says : (given : Result Outcome E) → IfOk given (λ how. how ≡ OnDisk → IsStored parts m.bytes calls) → IfOk given (λ how. LookCause how m.name m.bytes before calls)
       → OnErr given (HasCall Fails before calls) → EndSays tasks.Put m (came given) parts before calls
-  put_says given stored cause fails = (came_says (IsStored parts m.bytes calls) given stored, came_caused given cause fails)
+  put_says given stored cause fails = (came_says (IsStored parts m.bytes calls) given stored, came_caused given cause fails, tt)
 
   -- of one that is there
   pub keep_says : (given : Result Outcome E) → IfOk given (λ how. how ≡ OnDisk → IsStored parts m.bytes calls) → IfOk given (λ how. LookCause how m.name m.bytes before calls)
-      → OnErr given (HasCall Fails before calls) → EndSays tasks.Keep m (came given) parts before calls
-  keep_says given stored cause fails = (came_says (IsStored parts m.bytes calls) given stored, came_caused given cause fails)
+      → OnErr given (HasCall Fails before calls) → LinksNone before calls → EndSays tasks.Keep m (came given) parts before calls
+  keep_says given stored cause fails links = (came_says (IsStored parts m.bytes calls) given stored, came_caused given cause fails, links)
 
   -- of parts that are removed
-  pub removed_says : (given : Result Outcome E) → IfOk given (λ how. how ≡ OnDisk → AreRemoved m.names before calls) → IfOk given (λ how. LookCause how m.name m.bytes before calls)
-      → OnErr given (HasCall Fails before calls) → EndSays tasks.Remove m (came given) parts before calls
-  removed_says given gone cause fails = (came_says (AreRemoved m.names before calls) given gone, came_caused given cause fails)
+  pub removed_says : (given : Result Outcome E) → IfOk given (λ how. how ≡ OnDisk → AreRemoved m.names before calls) → IfOk given (λ how. how ≡ OnDisk → IsStored parts m.bytes calls)
+      → IfOk given (λ how. LookCause how m.name m.bytes before calls) → OnErr given (HasCall Fails before calls) → LinksNone before calls → EndSays tasks.Remove m (came given) parts before calls
+  removed_says (Ok how) gone stored cause fails links = (λ is. (gone (came_is how OnDisk is), stored (came_is how OnDisk is)), cause, links)
+  removed_says (Err error) gone stored cause fails links = (tt, fails, links)
 
   -- of parts in whose place another one comes
   pub replaced_says : (given : Result (Option Outcome) E) → IfOk given (λ answer. answer ≡ Some OnDisk → AreRemoved m.names before calls)
+      → IfOk given (λ answer. answer ≡ Some OnDisk → IsStored parts m.bytes calls)
       → IfOk given (λ answer. IfSome answer (λ how. LookCause how m.name m.bytes before calls)) → IfOk given (λ answer. answer ≡ None → HasCall (Lacks m.names) before calls)
-      → OnErr given (HasCall Fails before calls) → EndSays tasks.Replace m (replaced given) parts before calls
-  replaced_says (Ok (Some how)) gone cause overtaken fails = (λ is. gone (ap (λ (o : Outcome). Some o) (came_is how OnDisk is)), cause)
-  replaced_says (Ok None) gone cause overtaken fails = (λ is. cc, overtaken refl)
-  replaced_says (Err error) gone cause overtaken fails = (tt, fails)
+      → OnErr given (HasCall Fails before calls) → LinksOnly (Watches (HasEach m.names)) before calls → EndSays tasks.Replace m (replaced given) parts before calls
+  replaced_says (Ok (Some how)) gone stored cause overtaken fails links =
+      (λ is. let on = ap (λ (o : Outcome). Some o) (came_is how OnDisk is) in (gone on, stored on), cause, links)
+  replaced_says (Ok None) gone stored cause overtaken fails links = (λ is. cc, overtaken refl, links)
+  replaced_says (Err error) gone stored cause overtaken fails links = (tt, fails, links)
 
   -- of names that are listed
   pub listed_says : (given : Result (Vec (String Global)) E) → IfOk given (λ names. listing_of calls ≡ Gave (map string_bytes names.items))
-      → OnErr given (HasCall Fails before calls) → EndSays tasks.List m (listed given) parts before calls
-  listed_says (Ok names) gave fails = (λ others is. subst (λ (v : Vec (String Global)). listing_of calls ≡ Gave (map string_bytes v.items)) (listed_is names others is) gave, tt)
-  listed_says (Err error) gave fails = (tt, fails)
+      → OnErr given (HasCall Fails before calls) → LinksNone before calls → EndSays tasks.List m (listed given) parts before calls
+  listed_says (Ok names) gave fails links = (λ others is. subst (λ (v : Vec (String Global)). listing_of calls ≡ Gave (map string_bytes v.items)) (listed_is names others is) gave, tt, links)
+  listed_says (Err error) gave fails links = (tt, fails, links)
 
   -- of parts that are kept
-  pub kept_says : (given : Result (Unit {0}) E) → OnOk given (AreKept parts m.names before calls) → OnErr given (HasCall Fails before calls) → EndSays tasks.KeepAll m (kept given) parts before calls
-  kept_says (Ok done) are fails = (are, tt)
-  kept_says (Err error) are fails = (tt, fails)
+  pub kept_says : (given : Result (Unit {0}) E) → OnOk given (AreKept parts m.names before calls) → OnErr given (HasCall Fails before calls) → LinksNone before calls
+      → EndSays tasks.KeepAll m (kept given) parts before calls
+  kept_says (Ok done) are fails links = (are, tt, links)
+  kept_says (Err error) are fails links = (tt, fails, links)
 
   -- of a part that is to go with all that are there
   pub judged_says : (given : Result (Option Outcome) E) → IfOk given (λ answer. answer ≡ Some OnDisk → IsStored parts m.bytes calls)
       → IfOk given (λ answer. IfSome answer (λ how. HasOnlySeen m.names before calls)) → IfOk given (λ answer. IfSome answer (λ how. LookCause how m.name m.bytes before calls))
-      → IfOk given (λ answer. answer ≡ None → HasListed before calls) → OnErr given (HasCall Fails before calls) → EndSays tasks.PutJudged m (judged given) parts before calls
-  judged_says (Ok (Some how)) stored seen cause listed fails = ((λ is. stored (ap (λ (o : Outcome). Some o) (came_is how OnDisk is)), λ other is. seen), cause)
-  judged_says (Ok None) stored seen cause listed fails = ((λ is. cc, λ other is. cc), listed refl)
-  judged_says (Err error) stored seen cause listed fails = (tt, fails)
+      → IfOk given (λ answer. answer ≡ None → HasUnseen m.names before calls) → OnErr given (HasCall Fails before calls) → LinksOnly (Watches (Each (λ name. Among name m.names))) before calls
+      → EndSays tasks.PutJudged m (judged given) parts before calls
+  judged_says (Ok (Some how)) stored seen cause unseen fails links = ((λ is. stored (ap (λ (o : Outcome). Some o) (came_is how OnDisk is)), λ other is. seen), cause, links)
+  judged_says (Ok None) stored seen cause unseen fails links = ((λ is. cc, λ other is. cc), unseen refl, links)
+  judged_says (Err error) stored seen cause unseen fails links = (tt, fails, links)

@@ -1,8 +1,8 @@
 -- How a run goes over the calls that were told.
-use Rattle.std.proofs.Common.{◌≡◌, refl, sym, ◌∙◌, ap, subst, ℕ, ◌+◌, ◌<◌, ◌≤◌, Bool, true, false, leb, if◌then◌else◌, List, [], ◌∷◌, ◌++◌, length, take, map, get_or, Option, Some, MatchOption, option_map}
+use Rattle.std.proofs.Common.{◌≡◌, refl, sym, ◌∙◌, ap, subst, ℕ, ◌+◌, ◌<◌, ◌≤◌, Bool, true, false, not, leb, if◌then◌else◌, List, [], ◌∷◌, ◌++◌, length, take, drop, map, get_or, Option, Some, MatchOption, option_map}
 use Rattle.std.specs.List.{AllZip}
 use Rattle.std.proofs.lemmas.List.{append_assoc, append-nil, take_more, take_all}
-use Rattle.folder_history.specs.Call.{Call, Made, Wrote, Synced, Linked, Removed, Settled, Locked, Unlocked, Began, Listed, Read, Looked}
+use Rattle.folder_history.specs.Call.{Call, can_settle, Made, Wrote, Synced, Linked, Removed, Settled, Locked, Unlocked, Began, Listed, Read, Looked}
 use Rattle.folder_history.specs.Parts.{Parts}
 use Rattle.folder_history.specs.Turn.{InTurn, AllInTurn}
 use Rattle.folder_replay.specs.declared.request.Request.{Request}
@@ -10,7 +10,7 @@ use Rattle.folder_replay.specs.declared.request.Request.TheVariants.{Make, Write
 use Rattle.folder_replay.specs.declared.request.Answer.{Answer}
 use Rattle.folder_replay.specs.declared.request.Answer.TheVariants as answers
 use Rattle.folder_replay.specs.declared.request.Told.{Told}
-use Rattle.folder_replay.specs.Calls.{call_asked, answered, write_of, calls_after}
+use Rattle.folder_replay.specs.Calls.{call_asked, answered, is_done, write_of, fails_to_settle, calls_after}
 
 -- one call more was told
 pub told_more : (whole : List ℕ) (ts : List Told) (t : Told) (before : List Call) → calls_after whole (ts ++ t ∷ []) before ≡ answered (call_asked whole t.request) t.answer ++ calls_after whole ts before
@@ -58,19 +58,23 @@ module _ (parts : Parts) where
   wrote_whatever bytes h answers.Missing turn = turn
   wrote_whatever bytes h (answers.Found found) turn = turn
 
-  pub whatever : (call : Call) (h : List Call) (answer : Answer) → AllInTurn parts (answered call answers.Failed ++ h) → AllInTurn parts (answered call answer ++ h)
-  whatever (Made name ok) h answer all = all
-  whatever (Wrote bytes ok) h answer all = (wrote_whatever bytes h answer all.0, all.1)
-  whatever (Synced ok) h answer all = all
-  whatever (Linked from to ok) h answer all = all
-  whatever (Removed name ok) h answer all = all
-  whatever (Settled ok) h answer all = all
-  whatever (Locked kind ok) h answer all = all
-  whatever Unlocked h answer all = all
-  whatever Began h answer all = all
-  whatever (Listed names) h answer all = all
-  whatever (Read name ok) h answer all = all
-  whatever (Looked name ok) h answer all = all
+  settled_whatever : (b : Bool) (h : List Call) → can_settle h ≡ true → InTurn parts h (Settled b)
+  settled_whatever true h can = can
+  settled_whatever false h can = tt
+
+  pub whatever : (call : Call) (h : List Call) (answer : Answer) → can_settle h ≡ true → AllInTurn parts (answered call answers.Failed ++ h) → AllInTurn parts (answered call answer ++ h)
+  whatever (Made name ok) h answer can all = all
+  whatever (Wrote bytes ok) h answer can all = (wrote_whatever bytes h answer all.0, all.1)
+  whatever (Synced ok) h answer can all = all
+  whatever (Linked from to ok) h answer can all = all
+  whatever (Removed name ok) h answer can all = all
+  whatever (Settled ok) h answer can all = (settled_whatever (is_done answer) h can, all.1)
+  whatever (Locked kind ok) h answer can all = all
+  whatever Unlocked h answer can all = all
+  whatever Began h answer can all = all
+  whatever (Listed names) h answer can all = all
+  whatever (Read name ok) h answer can all = all
+  whatever (Looked name ok) h answer can all = all
 
   -- what is asked for is in turn
   pub asked_in_turn : (whole : List ℕ) (request : Request) (h : List Call) → AllInTurn parts (answered (call_asked whole request) answers.Failed ++ h) → InTurn parts h (call_asked whole request)
@@ -113,3 +117,81 @@ pub holds_after : (P : List ℕ → List Call → Type 0) (w whole : List ℕ) (
 holds_after P w whole us ts before same_whole same_told holds =
     subst (λ (v : List ℕ). P v (calls_after v ts [] ++ before)) same_whole
     (subst (λ (vs : List Told). P w (calls_after w vs [] ++ before)) same_told (subst (P w) (after_all w us before) holds))
+
+-- ---- whether the folder may be synced
+
+-- what is so of all calls is so of those before
+can_before : (call : Call) (h : List Call) → can_settle (call ∷ h) ≡ true → can_settle h ≡ true
+can_before (Settled true) h can = can
+can_before (Settled false) h can = cc
+can_before (Made name ok) h can = can
+can_before (Wrote bytes ok) h can = can
+can_before (Synced ok) h can = can
+can_before (Linked from to answer) h can = can
+can_before (Removed name ok) h can = can
+can_before (Locked kind ok) h can = can
+can_before Unlocked h can = can
+can_before Began h can = can
+can_before (Listed names) h can = can
+can_before (Read name answer) h can = can
+can_before (Looked name ok) h can = can
+
+can_earlier : (calls h : List Call) → can_settle (calls ++ h) ≡ true → can_settle h ≡ true
+can_earlier [] h can = can
+can_earlier (call ∷ calls) h can = can_earlier calls h (can_before call (calls ++ h) can)
+
+pub can_first : (whole : List ℕ) (ts : List Told) (before : List Call) → can_settle (calls_after whole ts before) ≡ true → can_settle before ≡ true
+can_first whole ts before can = can_earlier (calls_after whole ts []) before (subst (λ (l : List Call). can_settle l ≡ true) (after_all whole ts before) can)
+
+-- the calls before, if the folder may be synced after them; else none
+abbrev pub started : List Call → List Call
+started before = if can_settle before then before else []
+
+pub started_can : (before : List Call) → can_settle (started before) ≡ true
+started_can before = by (can_settle before) refl
+  where
+    by : (b : Bool) → can_settle before ≡ b → can_settle (if b then before else []) ≡ true
+    by true is = is
+    by false is = refl
+
+pub started_is : (before : List Call) → can_settle before ≡ true → started before ≡ before
+started_is before can = ap (λ (b : Bool). if b then before else []) can
+
+-- a call that was told and is no sync of the folder that failed
+wrote_can : (bytes : List ℕ) (answer : Answer) (h : List Call) → can_settle h ≡ true → can_settle (write_of bytes answer ∷ h) ≡ true
+wrote_can bytes (answers.Wrote count) h can = by (leb count (length bytes))
+  where
+    by : (b : Bool) → can_settle ((if b then Wrote (take count bytes) true else Wrote bytes false) ∷ h) ≡ true
+    by true = can
+    by false = can
+wrote_can bytes answers.Failed h can = can
+wrote_can bytes (answers.FailedBy code) h can = can
+wrote_can bytes answers.Done h can = can
+wrote_can bytes answers.Taken h can = can
+wrote_can bytes (answers.Listed names) h can = can
+wrote_can bytes answers.Missing h can = can
+wrote_can bytes (answers.Found found) h can = can
+
+settled_can : (done : Bool) (h : List Call) → not done ≡ false → can_settle h ≡ true → can_settle (Settled done ∷ h) ≡ true
+settled_can true h done can = can
+settled_can false h done can = cc
+
+pub told_can : (whole : List ℕ) (request : Request) (answer : Answer) (h : List Call) → fails_to_settle request answer ≡ false → can_settle h ≡ true → can_settle (answered (call_asked whole request) answer ++ h) ≡ true
+told_can whole (Make name) answer h done can = can
+told_can whole (Write from) answer h done can = wrote_can (drop from whole) answer h can
+told_can whole Sync answer h done can = can
+told_can whole (Link from to) answer h done can = can
+told_can whole (Remove name) answer h done can = can
+told_can whole Settle answer h done can = settled_can (is_done answer) h done can
+told_can whole Lock answer h done can = can
+told_can whole LockShared answer h done can = can
+told_can whole ListNames answer h done can = can
+told_can whole Unlock answer h done can = can
+told_can whole (ReadFile name) answer h done can = can
+
+-- one more of those told is none
+pub can_more : (whole : List ℕ) (ts : List Told) (before : List Call) (k : ℕ) (t : Told) → k < length ts → get_or ts k t ≡ t → fails_to_settle t.request t.answer ≡ false
+    → can_settle (calls_after whole (take k ts) before) ≡ true → can_settle (calls_after whole (take (k + 1) ts) before) ≡ true
+can_more whole ts before k t below is done can =
+    subst (λ (l : List Call). can_settle l ≡ true) (sym (made_more whole ts before k t (call_asked whole t.request) below is refl))
+    (told_can whole t.request t.answer (calls_after whole (take k ts) before) done can)

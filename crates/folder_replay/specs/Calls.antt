@@ -1,5 +1,5 @@
 -- Which calls of a folder's history are asked for and told.
-use Rattle.std.specs.Prelude.{ℕ, Bool, true, false, List, [], ◌∷◌, ◌++◌, map, take, drop, length, leb, if◌then◌else◌, Option, Some, None}
+use Rattle.std.specs.Prelude.{ℕ, Bool, true, false, List, [], ◌∷◌, ◌++◌, map, take, drop, length, leb, not, if◌then◌else◌, Option, Some, None}
 use Rattle.std.specs.String.{string_bytes}
 use Rattle.folder_history.specs.Call.{Call, Made, Wrote, Synced, Linked, Removed, Settled, Locked, Unlocked, Began, Listed, Read, Looked, Exclusive, Shared, Linking, Done, Taken, Failed}
 use Rattle.folder_replay.specs.declared.request.Request.{Request}
@@ -79,6 +79,11 @@ answered Began answer = Listed (names_of answer) ∷ Began ∷ []
 answered (Listed names) answer = []
 answered (Read name ok) answer = Read name (found_of answer) ∷ []
 answered (Looked name ok) answer = []
+
+-- whether this is a sync of the folder that failed
+abbrev pub fails_to_settle : Request → Answer → Bool
+fails_to_settle Settle answer = not (is_done answer)
+fails_to_settle request answer = false
 
 -- the history after some calls were told, the oldest of them first
 abbrev pub calls_after : List ℕ → List Told → List Call → List Call

@@ -1,10 +1,11 @@
 -- The history of a run over calls that were told.
-use Rattle.std.specs.Prelude.{ℕ, List, ◌++◌, take, Option, Some, None}
+use Rattle.std.specs.Prelude.{◌≡◌, ℕ, List, ◌++◌, take, Option, Some, None}
 use Rattle.folder_history.specs.Call.{Call}
 use Rattle.folder_protocol.specs.Note.{calls_of}
 use Rattle.folder_replay.specs.Calls.{call_asked, answered, calls_after}
 use Rattle.folder_replay.specs.declared.request.Answer.TheVariants.{Failed}
 use Rattle.folder_replay.specs.declared.request.Told.{Told}
+use Rattle.folder_replay.specs.declared.replay.Fault.{Fault}
 use Rattle.folder_replay.specs.declared.replay.Why.{Why}
 use Rattle.folder_replay.specs.declared.replay.Why.TheVariants.{Asks, Fails}
 use Rattle.folder_replay.specs.declared.replay.Stop.{Stop}
@@ -18,3 +19,8 @@ stopped whole (Fails fault) calls = calls
 abbrev pub run_history : List ℕ → List Told → List Call → ℕ → Option Stop → List Call
 run_history whole told before at None = calls_after whole (take at told) before
 run_history whole told before at (Some stop) = calls_of stop.since.noted ++ stopped whole stop.why (calls_after whole (take at told) before)
+
+-- a run has stopped, since it is not known what it asks for, for this reason
+abbrev pub StopsFor : Option Stop → Fault → Type 0
+StopsFor None fault = ⊥
+StopsFor (Some stop) fault = stop.why ≡ Fails fault

@@ -1,6 +1,6 @@
 //! The next call that is asked for.
-ghost use Rattle.std.specs.Prelude.{◌≡◌, ◌++◌, ◌∷◌, [], List, IfOk};
-ghost use Rattle.folder_history.specs.Call.{Call};
+ghost use Rattle.std.specs.Prelude.{◌≡◌, ◌++◌, ◌∷◌, [], List, true, IfOk};
+ghost use Rattle.folder_history.specs.Call.{Call, can_settle};
 ghost use Rattle.folder_history.specs.Parts.{Parts};
 ghost use Rattle.folder_history.specs.Turn.{InTurn, AllInTurn};
 ghost use Rattle.folder_replay.specs.Calls.{call_asked, answered, calls_after};
@@ -24,12 +24,12 @@ pub fn next<P: Program>(
     told: &[Told],
 ) -> Result<Step<P::Outcome>, Fault>
     ghost before: { List Call }
-    // The call that is asked for is in turn after those told.
-    ensures in_turn { IfOk result (λ step. OnAsks step (λ request. (parts : Parts) → AllInTurn parts before → P.may_run program.now parts before → InTurn parts (calls_after whole.now told.now before) (call_asked whole.now request))) }
-    // Told with whatever answer, all calls are in turn.
-    ensures whatever { IfOk result (λ step. OnAsks step (λ request. (parts : Parts) → AllInTurn parts before → P.may_run program.now parts before → (answer : Answer) → AllInTurn parts (calls_after whole.now (told.now ++ record { request = request; answer = answer } ∷ []) before))) }
+    // The call that is asked for is in turn after those told, if no sync of the folder has failed before.
+    ensures in_turn { IfOk result (λ step. OnAsks step (λ request. (parts : Parts) → can_settle before ≡ true → AllInTurn parts before → P.may_run program.now parts before → InTurn parts (calls_after whole.now told.now before) (call_asked whole.now request))) }
+    // Told with whatever answer, all calls are in turn, if no sync of the folder has failed by then.
+    ensures whatever { IfOk result (λ step. OnAsks step (λ request. (parts : Parts) → can_settle (calls_after whole.now told.now before) ≡ true → AllInTurn parts before → P.may_run program.now parts before → (answer : Answer) → AllInTurn parts (calls_after whole.now (told.now ++ record { request = request; answer = answer } ∷ []) before))) }
     // What it has come to says of the calls told what the program says.
-    ensures ends { IfOk result (λ step. OnEnds step (λ outcome. (parts : Parts) → P.may_run program.now parts before → P.says program.now outcome parts before (calls_after whole.now told.now before))) }
+    ensures ends { IfOk result (λ step. OnEnds step (λ outcome. (parts : Parts) → can_settle before ≡ true → P.may_run program.now parts before → P.says program.now outcome parts before (calls_after whole.now told.now before))) }
 {
     run::<P, Brand>(alloc, program, whole, told)
 }
@@ -43,8 +43,9 @@ fn run<P: Program, S: Script>(
 ) -> Result<Step<P::Outcome>, Fault>
     requires whole { whole.now ≡ S.whole }
     requires told { calls_after whole.now told.now S.before ≡ S.calls }
+    requires settles { can_settle S.before ≡ true }
     ensures in_turn { IfOk result (λ step. OnAsks step (λ request. (parts : Parts) → AllInTurn parts S.before → P.may_run program.now parts S.before → InTurn parts S.calls (call_asked S.whole request))) }
-    ensures whatever { IfOk result (λ step. OnAsks step (λ request. (parts : Parts) → AllInTurn parts S.before → P.may_run program.now parts S.before → (answer : Answer) → AllInTurn parts (answered (call_asked S.whole request) answer ++ S.calls))) }
+    ensures whatever { IfOk result (λ step. OnAsks step (λ request. (parts : Parts) → can_settle S.calls ≡ true → AllInTurn parts S.before → P.may_run program.now parts S.before → (answer : Answer) → AllInTurn parts (answered (call_asked S.whole request) answer ++ S.calls))) }
     ensures ends { IfOk result (λ step. OnEnds step (λ outcome. (parts : Parts) → P.may_run program.now parts S.before → P.says program.now outcome parts S.before S.calls)) }
 {
     let mut folder = Replay::<S>::new(alloc, whole, told);

@@ -11,6 +11,7 @@ mod replay;
 mod request;
 mod script;
 mod seen;
+mod settling;
 mod step;
 mod turn;
 mod wanted;

@@ -124,7 +124,7 @@ impl Program for Order {
             Task::List => listed(list_names(alloc, folder)),
             Task::KeepAll => kept(keep_all(alloc, folder, names)),
             Task::PutJudged => {
-                let judge = Seen { alloc, names };
+                let judge = Seen { names };
                 judged(put_judged(alloc, folder, temporary, name, bytes, &judge))
             }
         }

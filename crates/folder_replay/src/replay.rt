@@ -1,12 +1,14 @@
 //! A folder whose calls are answered by what was told.
-ghost use Rattle.std.specs.Prelude.{◌≡◌, ◌≤◌, ◌+◌, ◌∷◌, ◌++◌, List, Some, None, true, false, length, map, take, is_ok, IfOk, IfSome, MatchOption, MatchResult, option_map, if◌then◌else◌, [], ◌<◌};
+ghost use Rattle.std.specs.Prelude.{◌≡◌, ◌⊎◌, ◌≤◌, ◌+◌, ◌∷◌, ◌++◌, List, Some, None, true, false, length, map, take, is_ok, IfOk, IfErr, IfSome, MatchOption, MatchResult, option_map, if◌then◌else◌, [], ◌<◌};
 ghost use Rattle.std.specs.Coded.{Coded-set, coded_list};
 ghost use Rattle.folder_replay.specs.Coding.{coded_call};
+ghost use Rattle.folder_history.specs.Call.{can_settle};
 ghost use Rattle.folder_replay.specs.Calls.{calls_after};
 
 use crate::answering::{done, error_of, linked, listed, read, written};
 use crate::request::{Answer, Request, Told};
 use crate::script::Script;
+use crate::settling::may_settle;
 use crate::step::Step;
 use crate::wanted::Wanted;
 use folder_protocol::{Folder, Record};
@@ -47,11 +49,12 @@ pub struct Replay<'a, S: Script> {
     stop: Option<Stop>,
     script: PhantomData<S>,
     ghost whole_is: { whole.now ≡ S.whole },
+    ghost settles: { can_settle S.before ≡ true },
     ghost told_is: { calls_after whole.now told.now S.before ≡ S.calls } by { Coded-set (coded_list coded_call) (calls_after whole.now told.now S.before) S.calls },
 }
 
 impl<'a, S: Script> Replay<'a, S> {
-    ghost use Rattle.folder_replay.specs.Run.{run_history};
+    ghost use Rattle.folder_replay.specs.Run.{run_history, StopsFor};
     ghost use Rattle.folder_replay.specs.Calls.{call_asked, wanted_of, answered};
     ghost use Rattle.folder_replay.specs.Steps.{OnAsks, OnEnds};
     ghost use Rattle.folder_replay.specs.declared.request.Answer.TheVariants.{Failed};
@@ -61,6 +64,7 @@ impl<'a, S: Script> Replay<'a, S> {
     pub fn new(alloc: Global, whole: &'a [u8], told: &'a [Told]) -> Replay<'a, S>
         requires whole { whole.now ≡ S.whole }
         requires told { calls_after whole.now told.now S.before ≡ S.calls }
+        requires settles { can_settle S.before ≡ true }
         ensures { run_history S.whole result.told.now S.before result.at result.stop ≡ S.before }
     {
         Replay {
@@ -138,6 +142,8 @@ impl<'a, S: Script> Replay<'a, S> {
     /// What the run has come to, or what it asks for.
     pub fn into_step<T: Drop>(self, outcome: T) -> Result<Step<T>, Fault>
         ensures asks { IfOk result (λ step. OnAsks step (λ request. (since : List Call) × (run_history S.whole self.entry.told.now S.before self.entry.at self.entry.stop ≡ since ++ (answered (call_asked S.whole request) Failed ++ S.calls)))) }
+        // It is not known what it asks for only if it has not made all calls that were told, or has stopped for that reason.
+        ensures fails { IfErr result (λ fault. (self.entry.at < length self.entry.told.now) ⊎ StopsFor self.entry.stop fault) }
         ensures ends { IfOk result (λ step. OnEnds step (λ end. (end ≡ outcome) × (run_history S.whole self.entry.told.now S.before self.entry.at self.entry.stop ≡ S.calls))) }
     {
         let Replay { told, at, stop, .. } = self;
@@ -183,7 +189,16 @@ impl<'a, S: Script> Folder for Replay<'a, S> {
     }
 
     fn settle(&mut self) -> io::Result<()> {
-        done(self.follow(Wanted::Settle))
+        match self.find(Wanted::Settle) {
+            Some(answer) if !answer.is_done() || may_settle(self.told, self.at) => {
+                self.at += 1;
+                done(Some(answer))
+            }
+            _ => {
+                self.halt(Wanted::Settle);
+                Err(error_of(None))
+            }
+        }
     }
 
     fn lock(&mut self) -> io::Result<()> {

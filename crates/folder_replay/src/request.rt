@@ -1,4 +1,6 @@
 //! Calls on a folder as they are asked for, and what came of them.
+ghost use Rattle.std.specs.Prelude.{◌≡◌};
+ghost use Rattle.folder_replay.specs.Calls.{is_done};
 
 /// A call that is to be made on a folder. Files are named by their names in it.
 #[derive(Debug, Drop)]
@@ -45,6 +47,15 @@ pub enum Answer {
     Missing,
     /// `ReadFile` found these bytes.
     Found { bytes: Vec<u8> },
+}
+
+impl Answer {
+    /// Whether it is that the call was done.
+    pub(crate) fn is_done(&self) -> bool
+        ensures { result ≡ is_done self.now }
+    {
+        matches!(self, Answer::Done)
+    }
 }
 
 /// A call that was made, and what came of it. An answer that does not fit the call counts as a failure.

@@ -1,5 +1,6 @@
 //! Why something was not done with a folder.
 
+use crate::refusals::has_too_many_files;
 use std::alloc::AllocError;
 use std::error::Error;
 use std::fmt;
@@ -12,13 +13,21 @@ pub enum FolderFault {
     Busy,
     /// The file system has no locks of folders.
     NoLock,
+    /// The system refuses its lock, for this reason.
+    Unlocked(ErrorKind),
+    /// As many files are open as may be.
+    TooManyFiles,
     /// The system refuses, for this reason.
     System(ErrorKind),
 }
 
 impl From<io::Error> for FolderFault {
     fn from(error: io::Error) -> FolderFault {
-        FolderFault::System(error.kind())
+        if has_too_many_files(&error) {
+            FolderFault::TooManyFiles
+        } else {
+            FolderFault::System(error.kind())
+        }
     }
 }
 
@@ -33,6 +42,11 @@ impl fmt::Display for FolderFault {
         match self {
             FolderFault::Busy => f.write_str("others have had the folder's lock for ten seconds"),
             FolderFault::NoLock => f.write_str("the file system has no locks of folders"),
+            FolderFault::Unlocked(kind) => write!(
+                f,
+                "the system refuses the folder's lock: {kind}"
+            ),
+            FolderFault::TooManyFiles => f.write_str("too many files are open"),
             FolderFault::System(kind) => write!(f, "the system refuses: {kind}"),
         }
     }

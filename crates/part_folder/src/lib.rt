@@ -7,6 +7,7 @@ mod listing;
 mod lock;
 mod making;
 mod names;
+mod refusals;
 mod sweeping;
 mod system;
 mod temporary;

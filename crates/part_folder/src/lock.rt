@@ -1,8 +1,10 @@
 //! The lock of a folder, which is on the folder itself: shared while its names are listed, exclusive while files are removed.
 
 use crate::fault::FolderFault;
+use crate::refusals::has_no_locks;
 use patience::Patience;
 use std::fs::{self, File, Files, TryLockError};
+use std::io::{self, ErrorKind};
 use std::rt::Clock;
 
 /// How a folder is locked.
@@ -20,6 +22,8 @@ pub struct FolderLock {
 
 impl FolderLock {
     /// Waits for the shared lock of a folder; none if the file system has no such lock. Then names come and go unseen.
+    ///
+    /// Refused are a folder that can't be opened, `Busy` after ten seconds, and `Unlocked` if the system refuses the lock.
     pub fn shared<R: Files<File = File> + Clock>(
         rt: &R,
         folder: &str,
@@ -33,7 +37,8 @@ impl FolderLock {
 
     /// Waits for the exclusive lock of a folder.
     ///
-    /// Refused are a folder that can't be opened, `Busy` after ten seconds, and `NoLock` if the file system has no such lock.
+    /// Refused are a folder that can't be opened, `Busy` after ten seconds, `NoLock` if the file system has no such lock, and `Unlocked` if
+    /// the system refuses it.
     pub fn exclusive<R: Files<File = File> + Clock>(
         rt: &R,
         folder: &str,
@@ -58,6 +63,15 @@ impl FolderLock {
     }
 }
 
+/// Why the lock of a folder was not got.
+fn fault_of(error: &io::Error) -> FolderFault {
+    if has_no_locks(error) {
+        FolderFault::NoLock
+    } else {
+        FolderFault::Unlocked(error.kind())
+    }
+}
+
 /// Waits for the lock of a folder that is open.
 fn wait<R: Clock>(rt: &R, folder: &File, kind: Kind) -> Result<(), FolderFault> {
     let mut patience = Patience::new(rt);
@@ -68,8 +82,9 @@ fn wait<R: Clock>(rt: &R, folder: &File, kind: Kind) -> Result<(), FolderFault> 
         };
         match tried {
             Ok(()) => return Ok(()),
-            Err(TryLockError::Error(_)) => return Err(FolderFault::NoLock),
             Err(TryLockError::WouldBlock) => {}
+            Err(TryLockError::Error(error)) if error.kind() == ErrorKind::Interrupted => {}
+            Err(TryLockError::Error(error)) => return Err(fault_of(&error)),
         }
         if !patience.wait(rt) {
             return Err(FolderFault::Busy);

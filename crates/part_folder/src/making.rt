@@ -108,14 +108,20 @@ fn made<R: Files<File = File> + RandomSource + AllocGlobal>(
 /// The folder that was just made, open and with its lock. None if a sweep came first.
 fn held<R: Files<File = File>>(rt: &R, path: &str) -> io::Result<Option<File>> {
     match fs::open(rt, path) {
-        Ok(folder) if is_ours(rt, &folder, path) => Ok(Some(folder)),
-        Ok(_) => Ok(None),
+        Ok(folder) => match is_ours(rt, &folder, path) {
+            Ok(true) => Ok(Some(folder)),
+            Ok(false) => Ok(None),
+            Err(error) => undone(rt, path, error),
+        },
         Err(error) if error.kind() == ErrorKind::NotFound => Ok(None),
-        Err(error) => {
-            let _ = fs::remove_dir(rt, path);
-            Err(error)
-        }
+        Err(error) => undone(rt, path, error),
     }
+}
+
+/// Removes a folder that was just made, and is not to be had for this reason.
+fn undone<R: Files>(rt: &R, path: &str, error: io::Error) -> io::Result<Option<File>> {
+    let _ = fs::remove_dir(rt, path);
+    Err(error)
 }
 
 /// Puts a part into a folder that was just made, and has both on the disk.

@@ -1,6 +1,7 @@
 //! A folder of the operating system, as the protocol of parts asks for it. Each method makes its call, and then notes it with its
 //! answer.
-ghost use Rattle.std.specs.Prelude.{◌≡◌, ◌≤◌, [], IfOk, length};
+ghost use Rattle.std.specs.Prelude.{◌≡◌, ◌≤◌, [], true, IfOk, OnOk, length};
+ghost use Rattle.folder_history.specs.Call.{can_settle};
 ghost use Rattle.folder_protocol.specs.Note.{calls_of};
 
 use crate::fault::FolderFault;
@@ -8,6 +9,7 @@ use crate::keeping::{find, open_if_there, open_to_look};
 use crate::listing::list_locked;
 use crate::lock::FolderLock;
 use crate::names::path_in;
+use crate::refusals::too_many_files;
 use crate::temporary::{is_ours, link_or_rename, remove_unheld};
 use folder_protocol::{Folder, Found, Looks, Opened, Record, Sweeps};
 use std::alloc::Global;
@@ -27,7 +29,10 @@ pub struct SystemFolder<'r, R: Files<File = File>> {
     unread: Option<String>,
     unsynced: Option<ErrorKind>,
     unreadable: usize,
+    /// Whether no sync of the folder has failed since it was opened.
+    settles: bool,
     calls: Record,
+    ghost so_far: { settles ≡ can_settle (calls_of calls.noted) },
 }
 
 impl<'r, R: Files<File = File> + AllocGlobal> SystemFolder<'r, R> {
@@ -46,6 +51,7 @@ impl<'r, R: Files<File = File> + AllocGlobal> SystemFolder<'r, R> {
             unread: None,
             unsynced: None,
             unreadable: 0,
+            settles: true,
             calls: Record::new(),
         })
     }
@@ -102,7 +108,7 @@ fn made<R: Files<File = File> + AllocGlobal>(rt: &R, folder: &str, name: &str) -
         .write(true)
         .create_new(true)
         .open(rt, path.as_str())?;
-    if is_ours(rt, &file, path.as_str()) {
+    if is_ours(rt, &file, path.as_str())? {
         Ok(file)
     } else {
         Err(io::Error::from(ErrorKind::AlreadyExists))
@@ -154,6 +160,17 @@ fn read_in<R: Files<File = File> + AllocGlobal>(
     Ok(Some((file, bytes)))
 }
 
+/// Syncs a folder, unless a sync of it has failed before: what that should have had on the disk the system may take for synced since.
+fn settled(folder: &File, settles: bool) -> io::Result<()>
+    ensures { OnOk result (settles ≡ true) }
+{
+    if settles {
+        folder.sync_all()
+    } else {
+        Err(io::Error::from(ErrorKind::Other))
+    }
+}
+
 /// Removes a name from a folder, unless a process holds its file, or it is no plain file; and whether it did.
 fn swept<R: Files<File = File> + AllocGlobal>(
     rt: &R,
@@ -196,7 +213,8 @@ fn error_of(fault: FolderFault) -> io::Error {
     match fault {
         FolderFault::Busy => io::Error::from(ErrorKind::ResourceBusy),
         FolderFault::NoLock => io::Error::from(ErrorKind::Unsupported),
-        FolderFault::System(kind) => io::Error::from(kind),
+        FolderFault::Unlocked(kind) | FolderFault::System(kind) => io::Error::from(kind),
+        FolderFault::TooManyFiles => too_many_files(),
     }
 }
 
@@ -259,8 +277,9 @@ impl<'r, R: Files<File = File> + Clock + AllocGlobal + Clone + Drop> Folder
 
     fn settle(&mut self) -> io::Result<()> {
         self.begin();
-        let answer = self.folder.sync_all();
+        let answer = settled(&self.folder, self.settles);
         self.unsynced = kind_of(&answer);
+        self.settles = answer.is_ok();
         self.calls.settled(answer.is_ok());
         answer
     }

@@ -1,14 +1,17 @@
 //! Temporaries: who has one, and how its file comes to its name.
 
+use crate::refusals::{has_no_links, has_no_locks};
 use std::fs::{self, File, Files, TryLockError};
 use std::io::{self, ErrorKind};
 use std::os::unix::fs::MetadataExt;
 
-/// Whether a file that was just made is this process's: a sweep has not come first.
-pub fn is_ours<R: Files>(rt: &R, file: &File, path: &str) -> bool {
+/// Whether a file that was just made is this process's: a sweep has not come first. If the file system has no locks it is without.
+pub fn is_ours<R: Files>(rt: &R, file: &File, path: &str) -> io::Result<bool> {
     match file.try_lock() {
-        Err(TryLockError::WouldBlock) => false,
-        Ok(()) | Err(TryLockError::Error(_)) => is_named(rt, file, path),
+        Ok(()) => Ok(is_named(rt, file, path)),
+        Err(TryLockError::WouldBlock) => Ok(false),
+        Err(TryLockError::Error(error)) if has_no_locks(&error) => Ok(is_named(rt, file, path)),
+        Err(TryLockError::Error(error)) => Err(error),
     }
 }
 
@@ -39,7 +42,8 @@ pub fn link_or_rename<R: Files>(rt: &R, from: &str, to: &str) -> io::Result<bool
     match fs::hard_link(rt, from, to) {
         Ok(()) => Ok(true),
         Err(error) if error.kind() == ErrorKind::AlreadyExists => Ok(false),
-        Err(_) => rename_to_new(rt, from, to),
+        Err(error) if has_no_links(&error) => rename_to_new(rt, from, to),
+        Err(error) => Err(error),
     }
 }
 

@@ -1,9 +1,9 @@
 -- What is made of parts that were read may come in their place, after every history in which they were read.
-use Rattle.std.specs.Prelude.{◌≡◌, ℕ, List, [], ◌∷◌, ◌++◌, map, reverse, Some, Result, Ok, Err, IfOk}
+use Rattle.std.specs.Prelude.{◌≡◌, ℕ, true, List, [], ◌∷◌, ◌++◌, map, reverse, Some, Result, Ok, Err, IfOk}
 use Rattle.std.proofs.Common.{refl, sym, ap, subst, ◌∙◌, inl, inr}
 use Rattle.std.proofs.lemmas.List.{reverse-append, map-append}
 use Rattle.table_model.specs.declared.refusal.Refusal.{Refusal}
-use Rattle.folder_history.specs.Call.{Call, Read}
+use Rattle.folder_history.specs.Call.{Call, Read, can_settle}
 use Rattle.folder_history.specs.Disk.{Among}
 use Rattle.folder_history.specs.Parts.{IsNoPart}
 use Rattle.folder_protocol.specs.Taking.{bytes_read}
@@ -15,13 +15,14 @@ use Rattle.replica_store.specs.Replica.{Replica}
 use Rattle.replica_reading.specs.Held.{held_in}
 use Rattle.replica_commands.specs.Commands.{file_of, as_held}
 use Rattle.replica_commands.specs.Forgetting.{forgetting}
-use Rattle.folder_home.specs.Covers.{folder_parts}
+use Rattle.folder_home.specs.Covers.{folder_home}
 use Rattle.folder_home.specs.PartName.{part_name}
 use Rattle.folder_home.specs.Parts.{JoinsPart, OpensPart}
-use Rattle.folder_commands.specs.Joined.{IsJoinOf, AreRead}
+use Rattle.folder_commands.specs.Joined.{AreRead}
 use Rattle.folder_commands.specs.Replacing.{AreCoveredBy}
-use Rattle.folder_commands.proofs.Joins.{first_joined, from_reverse, next_joined, to_reverse}
 use Rattle.folder_commands.proofs.Replacings.{are_joined, pack_covered, forget_covered}
+use Rattle.read_parts.specs.Joined.{IsJoinOf}
+use Rattle.read_parts.proofs.Joins.{first_joined, from_reverse, next_joined, to_reverse}
 use Rattle.read_parts.specs.Orders.{MayFollow, Replaces, WereRead, matter_replacing, names_of}
 
 -- the names with one more
@@ -34,19 +35,19 @@ name_more name bytes files names more named are is =
 -- the first part is held
 pub first_read : (join : Replica) (name bytes : List ℕ) (after before : List Call) (names none : List (List ℕ)) → after ≡ Read name (Some (Some bytes)) ∷ before → before ≡ []
     → OpensPart {X = Replica} (λ r. r) (Ok join) (record { name = name; bytes = bytes }) → names ≡ none ++ name ∷ [] → none ≡ []
-    → IsJoinOf (Some join) (bytes_read after) × (names ≡ names_of (bytes_read after))
+    → IsJoinOf join (bytes_read after) × (names ≡ names_of (bytes_read after))
 first_read join name bytes after before names none is begun opens more empty =
     let files : bytes_read after ≡ bytes ∷ [] = ap bytes_read is ∙ ap (λ (l : List Call). bytes ∷ bytes_read l) begun in
-    subst (λ (l : List (List ℕ)). IsJoinOf (Some join) l × (names ≡ names_of l)) (sym files)
-    (first_joined name bytes [] join opens refl, more ∙ ap (λ (l : List (List ℕ)). l ++ name ∷ []) empty ∙ ap (λ (n : List ℕ). n ∷ []) opens.0)
+    subst (λ (l : List (List ℕ)). IsJoinOf join l × (names ≡ names_of l)) (sym files)
+    (first_joined name bytes join opens, more ∙ ap (λ (l : List (List ℕ)). l ++ name ∷ []) empty ∙ ap (λ (n : List ℕ). n ∷ []) opens.0)
 
 -- and so is a further one
 pub next_read : (was join : Replica) (name bytes : List ℕ) (after before : List Call) (held names : List (List ℕ)) → after ≡ Read name (Some (Some bytes)) ∷ before
-    → JoinsPart {X = Replica} (λ r. r) (Ok join) was (record { name = name; bytes = bytes }) → IsJoinOf (Some was) (bytes_read before) → held ≡ names_of (bytes_read before) → names ≡ held ++ name ∷ []
-    → IsJoinOf (Some join) (bytes_read after) × (names ≡ names_of (bytes_read after))
+    → JoinsPart {X = Replica} (λ r. r) (Ok join) was (record { name = name; bytes = bytes }) → IsJoinOf was (bytes_read before) → held ≡ names_of (bytes_read before) → names ≡ held ++ name ∷ []
+    → IsJoinOf join (bytes_read after) × (names ≡ names_of (bytes_read after))
 next_read was join name bytes after before held names is joins joined are more =
     let files : bytes_read after ≡ bytes ∷ bytes_read before = ap bytes_read is in
-    subst (λ (l : List (List ℕ)). IsJoinOf (Some join) l × (names ≡ names_of l)) (sym files)
+    subst (λ (l : List (List ℕ)). IsJoinOf join l × (names ≡ names_of l)) (sym files)
     (next_joined name bytes (bytes_read before) was join joins joined, name_more name bytes (bytes_read before) held names joins.0 are more)
 
 -- what holds of a store holds of the join that it is of
@@ -62,7 +63,7 @@ of_name name (file ∷ files) (inl is) = (file, is, inl refl)
 of_name name (file ∷ files) (inr among) = let more = of_name name files among in (more.0, more.1, inr more.2)
 
 -- what was read was joined
-pub are_read : (whole : Replica) (files : List (List ℕ)) (before : List Call) → IsJoinOf (Some whole) files → WereRead files before → AreRead [] (names_of files) whole before
+pub are_read : (whole : Replica) (files : List (List ℕ)) (before : List Call) → IsJoinOf whole files → WereRead files before → AreRead [] (names_of files) whole before
 are_read whole files before (first, others, is, made) read = record {
   first = first;
   others = others;
@@ -74,21 +75,21 @@ are_read whole files before (first, others, is, made) read = record {
 }
 
 -- what covers them may come in their place
-may_replace : (temporary bytes : List ℕ) (names : List (List ℕ)) (before : List Call) → IsNoPart folder_parts temporary → AreCoveredBy [] names bytes before
-    → MayTake Replace (matter_replacing temporary names bytes) folder_parts before
-may_replace temporary bytes names before free covered = (refl, free, are_joined [] names bytes (part_name bytes) _ before refl refl covered)
+may_replace : (temporary bytes : List ℕ) (names : List (List ℕ)) (before : List Call) → can_settle before ≡ true → IsNoPart folder_home temporary → AreCoveredBy [] names bytes before
+    → MayTake Replace (matter_replacing temporary names bytes) folder_home before
+may_replace temporary bytes names before clean free covered = (clean, (refl, free, are_joined [] names bytes (part_name bytes) _ before refl refl covered))
 
 -- a pack may be followed
-pub packs : (whole : Replica) (files : List (List ℕ)) (temporary : List ℕ) → IsJoinOf (Some whole) files → held_in (file_of whole) ≡ Ok (as_held whole)
+pub packs : (whole : Replica) (files : List (List ℕ)) (temporary : List ℕ) → IsJoinOf whole files → held_in (file_of whole) ≡ Ok (as_held whole)
     → MayFollow Replace (matter_replacing temporary (names_of files) (file_of whole)) files
-packs whole files temporary joined read before were free =
-    may_replace temporary (file_of whole) (names_of files) before free (pack_covered [] (names_of files) whole before (are_read whole files before joined were) read)
+packs whole files temporary joined read before clean were free =
+    may_replace temporary (file_of whole) (names_of files) before clean free (pack_covered [] (names_of files) whole before (are_read whole files before joined were) read)
 
 -- and so may a forget
-pub forgets : (whole left : Replica) (dropped : ℕ × ℕ) (files : List (List ℕ)) (temporary : List ℕ) → IsJoinOf (Some whole) files → forgetting whole ≡ Ok (dropped, left) → held_in (file_of left) ≡ Ok (as_held left)
+pub forgets : (whole left : Replica) (dropped : ℕ × ℕ) (files : List (List ℕ)) (temporary : List ℕ) → IsJoinOf whole files → forgetting whole ≡ Ok (dropped, left) → held_in (file_of left) ≡ Ok (as_held left)
     → MayFollow Replace (matter_replacing temporary (names_of files) (file_of left)) files
-forgets whole left dropped files temporary joined forgot read before were free =
-    may_replace temporary (file_of left) (names_of files) before free (forget_covered [] (names_of files) whole left dropped before (are_read whole files before joined were) forgot read)
+forgets whole left dropped files temporary joined forgot read before clean were free =
+    may_replace temporary (file_of left) (names_of files) before clean free (forget_covered [] (names_of files) whole left dropped before (are_read whole files before joined were) forgot read)
 
 -- ---- the same of an order
 
@@ -110,7 +111,7 @@ follows order whole files temporary is may =
 -- that of a pack, if it was made
 pub pack_follows : {E : Type 0} (result : Result Order E) (whole : Replica) (files : List (List ℕ)) (temporary bytes : List ℕ) (names : List (List ℕ))
     → IfOk result (λ order. (order.task ≡ Replace) × (matter_of order ≡ matter_replacing temporary names bytes)) → names ≡ names_of files → (bytes ≡ file_of whole) × (held_in (file_of whole) ≡ Ok (as_held whole))
-    → IsJoinOf (Some whole) files → IfOk result (λ order. MayFollow order.task (matter_of order) files)
+    → IsJoinOf whole files → IfOk result (λ order. MayFollow order.task (matter_of order) files)
 pack_follows (Ok order) whole files temporary bytes names made are file joined =
     follows order whole files temporary (replaces order whole files temporary bytes names made are file) (packs whole files temporary joined file.1)
 pack_follows (Err error) whole files temporary bytes names made are file joined = tt

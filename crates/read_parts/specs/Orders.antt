@@ -1,6 +1,6 @@
 -- The orders of a pack and a forget of parts that were read, and when they may be followed.
-use Rattle.std.specs.Prelude.{◌≡◌, ℕ, List, [], filter, map, reverse, MatchOption, Ok}
-use Rattle.folder_history.specs.Call.{Call}
+use Rattle.std.specs.Prelude.{◌≡◌, ℕ, true, List, [], filter, map, reverse, MatchOption, Ok}
+use Rattle.folder_history.specs.Call.{Call, can_settle}
 use Rattle.folder_history.specs.Disk.{Among}
 use Rattle.folder_history.specs.Parts.{IsNoPart}
 use Rattle.folder_history.specs.Turn.{HasRead}
@@ -12,14 +12,14 @@ use Rattle.replica_store.specs.Replica.{Replica}
 use Rattle.replica_reading.specs.Held.{held_in}
 use Rattle.replica_commands.specs.Commands.{file_of, as_held}
 use Rattle.replica_commands.specs.Forgetting.{forgetting}
-use Rattle.folder_home.specs.Covers.{folder_parts}
+use Rattle.folder_home.specs.Covers.{folder_home}
 use Rattle.folder_home.specs.PartName.{part_name}
 use Rattle.folder_commands.specs.Wanted.{goes}
 use Rattle.read_parts.specs.declared.parts.Forget.{Forget}
 
 -- each of these files was read in a history, under the name of its bytes
 abbrev pub WereRead : List (List ℕ) → List Call → Type 0
-WereRead files before = (file : List ℕ) → Among file files → HasRead folder_parts file before
+WereRead files before = (file : List ℕ) → Among file files → HasRead folder_home file before
 
 -- the names of files, of which the newest is told first
 abbrev pub names_of : List (List ℕ) → List (List ℕ)
@@ -41,6 +41,7 @@ abbrev pub Forgets : Forget → List ℕ → Replica → List (List ℕ) → Typ
 Forgets f temporary whole files =
     (left : Replica) × (forgetting whole ≡ Ok ((f.dropped.batches, f.dropped.rows), left)) × MatchOption f.order (f.dropped.batches ≡ 0) (λ order. Replaces order temporary left files)
 
--- It may be followed after every history in which these files were read, if the temporary's name is no part's.
+-- It may be followed after every history in which these files were read and no sync of the folder has failed, if the temporary's name is no
+-- part's.
 abbrev pub MayFollow : Task → Matter → List (List ℕ) → Type 0
-MayFollow task matter files = (before : List Call) → WereRead files before → IsNoPart folder_parts matter.temporary → MayTake task matter folder_parts before
+MayFollow task matter files = (before : List Call) → can_settle before ≡ true → WereRead files before → IsNoPart folder_home matter.temporary → MayTake task matter folder_home before

@@ -29,13 +29,13 @@ pub struct ReadParts {
 }
 
 impl Model for ReadParts {
-    ghost use Rattle.std.specs.Prelude.{◌≡◌, List, ℕ, Some, map};
+    ghost use Rattle.std.specs.Prelude.{◌≡◌, List, ℕ, map};
     ghost use Rattle.std.specs.String.{string_bytes};
     ghost use Rattle.std.specs.Coded.{coded×, coded_list, coded_ℕ};
     ghost use Rattle.folder_protocol.specs.Note.{calls_of};
     ghost use Rattle.folder_protocol.specs.Taking.{bytes_read};
     ghost use Rattle.replica_store.specs.Replica.{Replica, coded_replica};
-    ghost use Rattle.folder_commands.specs.Joined.{IsJoinOf};
+    ghost use Rattle.read_parts.specs.Joined.{IsJoinOf};
     ghost use Rattle.read_parts.specs.Orders.{names_of};
 
     ghost Value = { Replica × List (List ℕ) };
@@ -44,7 +44,7 @@ impl Model for ReadParts {
 
     ghost view = { λ p. (p.join, bytes_read (calls_of p.calls.noted)) };
 
-    ghost invariant = { λ p. IsJoinOf (Some p.join) (bytes_read (calls_of p.calls.noted)) × (map string_bytes p.names.items ≡ names_of (bytes_read (calls_of p.calls.noted))) };
+    ghost invariant = { λ p. IsJoinOf p.join (bytes_read (calls_of p.calls.noted)) × (map string_bytes p.names.items ≡ names_of (bytes_read (calls_of p.calls.noted))) };
 }
 
 /// What a forget of parts comes to.

@@ -6,7 +6,7 @@ use Rattle.folder_protocol.proofs.Lines.{joins}
 use Rattle.folder_protocol.proofs.TakeLines.{untaken_later}
 use Rattle.replica_store.specs.declared.store.Store.{Store}
 use Rattle.replica_commands.specs.Forgetting.{forgetting}
-use Rattle.folder_home.specs.Covers.{folder_parts}
+use Rattle.folder_home.specs.Covers.{folder_home}
 use Rattle.folder_commands.specs.Joined.{IsReadAs}
 use Rattle.folder_commands.specs.Replacing.{LeavesForgotten}
 use Rattle.folder_commands.proofs.Commands.{follows, forget_covers, forgets_none, forgets_some, is_some, were_given, unwanted}
@@ -15,16 +15,16 @@ use Rattle.folder_commands.proofs.forgetting.forget.Goals as goal
 
 pub returns-then-dropped-eq0-clause-forgot : goal.returns-then-dropped-eq0-clause-forgot
 returns-then-dropped-eq0-clause-forgot g c =
-    let left = c.in-Ok-left_of.ensures in
-    let forgot = sym (ap (λ (s : Store). forgetting s.replica) c.in-Some.store-is) ∙ left.1 in
+    let left = c.in-Ok-left_of.ensures.left in
+    let forgot = left.1 in
     let held = λ (o : Option Store). option_map (λ (s : Store). s.replica) o in
     forgets_none (map string_bytes c.args.passed.now) (map string_bytes c.in-Ok.read.names.items) (held c.in-Ok.read.held) c.in-Some.store.replica left.0 (c.in-Ok-left_of.both.0.batches, c.in-Ok-left_of.both.0.rows)
     (g.F.Folder.history c.args.folder.now) (g.F.Folder.history c.read_folder.new.folder) (ap held c.in-Some.is) c.in-Ok.ensures.read forgot c.if-dropped-eq0.true
 
 pub returns-in-Ok-replace_read-clause-in_turn : goal.returns-in-Ok-replace_read-clause-in_turn
 returns-in-Ok-replace_read-clause-in_turn g c = λ temp.
-    let left = c.in-Ok-left_of.ensures in
-    let forgot = sym (ap (λ (s : Store). forgetting s.replica) c.in-Some.store-is) ∙ left.1 in
+    let left = c.in-Ok-left_of.ensures.left in
+    let forgot = left.1 in
     let written = left.2 (is_some c.in-Ok-left_of.both.0.batches c.if-dropped-eq0.false) in
     let held = λ (o : Option Store). option_map (λ (s : Store). s.replica) o in
     let passed = map string_bytes c.args.passed.now in
@@ -32,12 +32,12 @@ returns-in-Ok-replace_read-clause-in_turn g c = λ temp.
     let read = subst (λ l. IsReadAs passed (map string_bytes l) (held c.in-Ok.read.held) mid) (sym c.as_slice.ensures.value) c.in-Ok.ensures.read in
     let covered = forget_covers passed (map string_bytes c.as_slice.result.now) (held c.in-Ok.read.held) c.in-Some.store.replica left.0 (c.in-Ok-left_of.both.0.batches, c.in-Ok-left_of.both.0.rows) c.as_slice-2.result.now mid
     (ap held c.in-Some.is) read forgot (c.as_slice-2.ensures.value ∙ written.0, written.1) in
-    joins folder_parts _ _ _ c.read_folder.ensures.in_turn (c.replace_read.ensures.in_turn temp covered)
+    joins folder_home _ _ _ c.read_folder.ensures.in_turn (c.replace_read.ensures.in_turn temp covered)
 
 pub returns-in-Ok-replace_read-clause-forgot : goal.returns-in-Ok-replace_read-clause-forgot
 returns-in-Ok-replace_read-clause-forgot g c =
-    let left = c.in-Ok-left_of.ensures in
-    let forgot = sym (ap (λ (s : Store). forgetting s.replica) c.in-Some.store-is) ∙ left.1 in
+    let left = c.in-Ok-left_of.ensures.left in
+    let forgot = left.1 in
     let written = left.2 (is_some c.in-Ok-left_of.both.0.batches c.if-dropped-eq0.false) in
     let held = λ (o : Option Store). option_map (λ (s : Store). s.replica) o in
     let passed = map string_bytes c.args.passed.now in
@@ -52,10 +52,10 @@ returns-in-Ok-replace_read-clause-forgot g c =
     (forgets_some passed (map string_bytes c.as_slice.result.now) (held c.in-Ok.read.held) c.in-Some.store.replica left.0 dropped c.as_slice-2.result.now name gone c.in-Ok-replace_read.done.outcome before mid after
     (ap held c.in-Some.is) read forgot (c.as_slice-2.ensures.value ∙ written.0, written.1) c.read_folder.ensures.in_turn c.in-Ok-replace_read.ensures.replaces)
 
-pub returns-in-Err-replace_read-clause-in_turn : goal.returns-in-Err-replace_read-clause-in_turn
-returns-in-Err-replace_read-clause-in_turn g c = λ temp.
-    let left = c.in-Ok-left_of.ensures in
-    let forgot = sym (ap (λ (s : Store). forgetting s.replica) c.in-Some.store-is) ∙ left.1 in
+pub returns-clause-in_turn : goal.returns-clause-in_turn
+returns-clause-in_turn g c = λ temp.
+    let left = c.in-Ok-left_of.ensures.left in
+    let forgot = left.1 in
     let written = left.2 (is_some c.in-Ok-left_of.both.0.batches c.if-dropped-eq0.false) in
     let held = λ (o : Option Store). option_map (λ (s : Store). s.replica) o in
     let passed = map string_bytes c.args.passed.now in
@@ -63,7 +63,7 @@ returns-in-Err-replace_read-clause-in_turn g c = λ temp.
     let read = subst (λ l. IsReadAs passed (map string_bytes l) (held c.in-Ok.read.held) mid) (sym c.as_slice.ensures.value) c.in-Ok.ensures.read in
     let covered = forget_covers passed (map string_bytes c.as_slice.result.now) (held c.in-Ok.read.held) c.in-Some.store.replica left.0 (c.in-Ok-left_of.both.0.batches, c.in-Ok-left_of.both.0.rows) c.as_slice-2.result.now mid
     (ap held c.in-Some.is) read forgot (c.as_slice-2.ensures.value ∙ written.0, written.1) in
-    joins folder_parts _ _ _ c.read_folder.ensures.in_turn (c.replace_read.ensures.in_turn temp covered)
+    joins folder_home _ _ _ c.read_folder.ensures.in_turn (c.replace_read.ensures.in_turn temp covered)
 
 pub returns-in-None-clause-none : goal.returns-in-None-clause-none
 returns-in-None-clause-none g c = λ none.
@@ -86,13 +86,13 @@ returns-in-Ok-replace_read-clause-listed g c =
     (follows (map string_bytes c.args.passed.now) (map string_bytes c.as_slice.result.now) c.as_slice-2.result.now (string_bytes done.name) (map string_bytes done.gone.items) done.outcome mid after c.in-Ok-replace_read.ensures.replaces)
     c.in-Ok.ensures.listed
 
-pub returns-in-Err-replace_read-clause-cause : goal.returns-in-Err-replace_read-clause-cause
-returns-in-Err-replace_read-clause-cause g c =
+pub returns-clause-cause : goal.returns-clause-cause
+returns-clause-cause g c =
     let lists = c.read_folder.ensures.in_turn in
     untaken_later c.in-Err-replace_read.fault _ _ _ (lists.0, lists.1) c.in-Err-replace_read.ensures.cause
 
 pub returns-in-Ok-replace_read-clause-in_turn_named : goal.returns-in-Ok-replace_read-clause-in_turn_named
 returns-in-Ok-replace_read-clause-in_turn_named g c = λ is. returns-in-Ok-replace_read-clause-in_turn g c (no_temporary c.args.temporary.now is)
 
-pub returns-in-Err-replace_read-clause-in_turn_named : goal.returns-in-Err-replace_read-clause-in_turn_named
-returns-in-Err-replace_read-clause-in_turn_named g c = λ is. returns-in-Err-replace_read-clause-in_turn g c (no_temporary c.args.temporary.now is)
+pub returns-clause-in_turn_named : goal.returns-clause-in_turn_named
+returns-clause-in_turn_named g c = λ is. returns-clause-in_turn g c (no_temporary c.args.temporary.now is)

@@ -5,8 +5,8 @@ use Rattle.std.proofs.Common.{ap, sym, ◌∙◌}
 use Rattle.folder_commands.proofs.Written.{written_part}
 use Rattle.folder_commands.proofs.forgetting.left_of.Goals as goal
 
-pub returns-in-Ok : goal.returns-in-Ok
-returns-in-Ok c =
+pub returns-in-Ok-clause-left : goal.returns-in-Ok-clause-left
+returns-in-Ok-clause-left c =
     let made = c.in-Ok.ensures.made in
     let empty = ap (λ (w : Vec ℕ × ℕ). w.0.items) c.new-writer.ensures ∙ c.new.ensures.items in
     let whole = sym (ap (λ (w : Vec ℕ). w.items) c.into_inner.ensures) in

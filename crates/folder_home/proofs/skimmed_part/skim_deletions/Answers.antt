@@ -15,3 +15,10 @@ returns-clause-skimmed c = λ r held.
     (ap (list_any (is_one_of c.args.names.first c.args.names.count)) (sym c.as_slice.ensures.value) ∙ sym c.holds_any.ensures ∙ c.if-holds_any.false)
     c.from_parts-offer.ensures.schema c.from_parts-offer.ensures.batches c.from_parts-offer.ensures.deleted (c.from_parts-offer.ensures.entries ∙ c.new.ensures.items)
     c.in_ok-store.ensures.value (omega (arith, c.len-batches.ensures, c.as_slice.ensures.len, ap length c.as_slice.ensures.value))
+
+pub returns-clause-none : goal.returns-clause-none
+returns-clause-none c = (
+  (c.in-Ok.skimmed.schema, (c.in-Ok.skimmed.names.items, c.in-Ok.skimmed.deleted)),
+  c.in-Ok.ensures,
+  ap (list_any (is_one_of c.args.names.first c.args.names.count)) (sym c.as_slice.ensures.value) ∙ sym c.holds_any.ensures ∙ c.if-holds_any.false,
+)

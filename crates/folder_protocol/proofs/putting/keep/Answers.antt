@@ -2,7 +2,8 @@ use Rattle.std.proofs.Common.{rules, refl, ◌≢◌}
 use Rattle.folder_protocol.specs.Causes.{Fails, FailsToSync, FindsNone, FindsOther}
 use Rattle.folder_protocol.proofs.Causing.{follows_none, follows_on, has_now, has_later, on_err}
 use Rattle.folder_protocol.proofs.ReadLines.{opened, unopened}
-use Rattle.folder_protocol.proofs.Lines.{starts, goes_on}
+use Rattle.folder_protocol.proofs.Lines.{starts, goes_on, settles_on}
+use Rattle.folder_protocol.proofs.Linking.{plain_none, plain_on}
 use Rattle.folder_protocol.proofs.putting.keep.Goals as goal
 
 pub returns-in_err-found-clause-in_turn : goal.returns-in_err-found-clause-in_turn
@@ -18,13 +19,13 @@ pub returns-in-Ok-settle-clause-in_turn : goal.returns-in-Ok-settle-clause-in_tu
 returns-in-Ok-settle-clause-in_turn g c = λ parts.
     let read = goes_on parts _ _ _ _ (starts parts _) c.in_ok-found.ensures tt in
     let synced = goes_on parts _ _ _ _ read c.sync.ensures tt in
-    goes_on parts _ _ _ _ synced c.settle.ensures tt
+    settles_on parts c.settle.result _ _ _ synced c.settle.ensures.noted c.settle.ensures.clean
 
 pub returns-in-Ok-clause-in_turn : goal.returns-in-Ok-clause-in_turn
 returns-in-Ok-clause-in_turn g c = λ parts.
     let read = goes_on parts _ _ _ _ (starts parts _) c.in_ok-found.ensures tt in
     let synced = goes_on parts _ _ _ _ read c.sync.ensures tt in
-    goes_on parts _ _ _ _ synced c.settle.ensures tt
+    settles_on parts c.settle.result _ _ _ synced c.settle.ensures.noted c.settle.ensures.clean
 
 pub returns-clause-in_turn : goal.returns-clause-in_turn
 returns-clause-in_turn g c = λ parts.
@@ -44,7 +45,25 @@ returns-then-ne-clause-cause g c =
 
 pub returns-in-Ok-clause-cause : goal.returns-in-Ok-clause-cause
 returns-in-Ok-clause-cause g c =
-    has_later FailsToSync _ _ _ (follows_on _ _ _ _ (follows_on _ _ _ _ (follows_none _) c.in_ok-found.ensures) c.sync.ensures) (has_now FailsToSync _ _ _ c.in-Err-settle.ensures refl)
+    has_later FailsToSync _ _ _ (follows_on _ _ _ _ (follows_on _ _ _ _ (follows_none _) c.in_ok-found.ensures) c.sync.ensures) (has_now FailsToSync _ _ _ c.in-Err-settle.ensures.noted refl)
 
 pub returns-clause-cause : goal.returns-clause-cause
 returns-clause-cause g c = has_later FailsToSync _ _ _ (follows_on _ _ _ _ (follows_none _) c.in_ok-found.ensures) (has_now FailsToSync _ _ _ c.in-Err.ensures refl)
+
+pub returns-in_err-found-clause-plain : goal.returns-in_err-found-clause-plain
+returns-in_err-found-clause-plain g c = plain_on _ _ _ _ (plain_none _) c.in_err-found.ensures tt
+
+pub returns-in-None-clause-plain : goal.returns-in-None-clause-plain
+returns-in-None-clause-plain g c = plain_on _ _ _ _ (plain_none _) c.in_ok-found.ensures tt
+
+pub returns-then-ne-clause-plain : goal.returns-then-ne-clause-plain
+returns-then-ne-clause-plain g c = plain_on _ _ _ _ (plain_none _) c.in_ok-found.ensures tt
+
+pub returns-in-Ok-settle-clause-plain : goal.returns-in-Ok-settle-clause-plain
+returns-in-Ok-settle-clause-plain g c = plain_on _ _ _ _ (plain_on _ _ _ _ (plain_on _ _ _ _ (plain_none _) c.in_ok-found.ensures tt) c.sync.ensures tt) c.settle.ensures.noted tt
+
+pub returns-in-Ok-clause-plain : goal.returns-in-Ok-clause-plain
+returns-in-Ok-clause-plain g c = plain_on _ _ _ _ (plain_on _ _ _ _ (plain_on _ _ _ _ (plain_none _) c.in_ok-found.ensures tt) c.sync.ensures tt) c.settle.ensures.noted tt
+
+pub returns-clause-plain : goal.returns-clause-plain
+returns-clause-plain g c = plain_on _ _ _ _ (plain_on _ _ _ _ (plain_none _) c.in_ok-found.ensures tt) c.sync.ensures tt

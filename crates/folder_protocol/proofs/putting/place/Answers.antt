@@ -1,21 +1,22 @@
-use Rattle.std.proofs.Common.{rules, inl, refl, ap, ◌≡◌, Bool, true, false, if◌then◌else◌}
-use Rattle.folder_history.specs.Call.{Done, Taken}
+use Rattle.std.proofs.Common.{rules, inl, refl, ap, ◌∙◌, List, ◌≡◌, Bool, true, false, if◌then◌else◌}
+use Rattle.folder_history.specs.Call.{Call, Done, Taken, lock_of}
 use Rattle.folder_protocol.specs.Causes.{Fails, FailsToSync, AnswersLink}
 use Rattle.folder_protocol.proofs.Causing.{follows_none, follows_on, has_now, has_later, has_before, looks_later, fails_later, all_named, parts_without}
-use Rattle.folder_protocol.proofs.Lines.{starts, goes_on, joins}
+use Rattle.folder_protocol.proofs.Lines.{starts, goes_on, joins, settles_on}
+use Rattle.folder_protocol.proofs.Linking.{plain_lock, plain_links, links_none, links_on, links_more}
 use Rattle.folder_protocol.proofs.putting.place.Goals as goal
 
 pub returns-in-Ok-clause-in_turn : goal.returns-in-Ok-clause-in_turn
 returns-in-Ok-clause-in_turn g c = λ parts named temp ready.
     let linked = goes_on parts _ _ _ _ (starts parts _) c.in-Ok-true.ensures (c.args.bytes.now, ready, named) in
     let removed = goes_on parts _ _ _ _ linked c.remove.ensures (inl temp) in
-    goes_on parts _ _ _ _ removed c.settle.ensures tt
+    settles_on parts c.settle.result _ _ _ removed c.settle.ensures.noted c.settle.ensures.clean
 
 pub returns-in-Err-settle-clause-in_turn : goal.returns-in-Err-settle-clause-in_turn
 returns-in-Err-settle-clause-in_turn g c = λ parts named temp ready.
     let linked = goes_on parts _ _ _ _ (starts parts _) c.in-Ok-true.ensures (c.args.bytes.now, ready, named) in
     let removed = goes_on parts _ _ _ _ linked c.remove.ensures (inl temp) in
-    goes_on parts _ _ _ _ removed c.settle.ensures tt
+    settles_on parts c.settle.result _ _ _ removed c.settle.ensures.noted c.settle.ensures.clean
 
 pub returns-in-Ok-false-clause-in_turn : goal.returns-in-Ok-false-clause-in_turn
 returns-in-Ok-false-clause-in_turn g c = λ parts named temp ready.
@@ -30,12 +31,12 @@ returns-in-Err-clause-in_turn g c = λ parts named temp ready.
 
 pub returns-in-Err-settle-clause-cause : goal.returns-in-Err-settle-clause-cause
 returns-in-Err-settle-clause-cause g c =
-    has_later FailsToSync _ _ _ (follows_on _ _ _ _ (follows_on _ _ _ _ (follows_none _) c.in-Ok-true.ensures) c.remove.ensures) (has_now FailsToSync _ _ _ c.in-Err-settle.ensures refl)
+    has_later FailsToSync _ _ _ (follows_on _ _ _ _ (follows_on _ _ _ _ (follows_none _) c.in-Ok-true.ensures) c.remove.ensures) (has_now FailsToSync _ _ _ c.in-Err-settle.ensures.noted refl)
 
 pub returns-in-Err-settle-clause-named : goal.returns-in-Err-settle-clause-named
 returns-in-Err-settle-clause-named g c =
     let yes : c.in-Ok-true.field-0 ≡ true = search rules in
-    inl (has_before (AnswersLink c.args.name.now Done) _ _ _ (follows_on _ _ _ _ (follows_on _ _ _ _ (follows_none _) c.remove.ensures) c.settle.ensures) (has_now (AnswersLink c.args.name.now Done) _ _ _ c.in-Ok-true.ensures (refl, ap (λ (b : Bool). if b then Done else Taken) yes)))
+    inl (has_before (AnswersLink c.args.name.now Done) _ _ _ (follows_on _ _ _ _ (follows_on _ _ _ _ (follows_none _) c.remove.ensures) c.settle.ensures.noted) (has_now (AnswersLink c.args.name.now Done) _ _ _ c.in-Ok-true.ensures (refl, ap (λ (b : Bool). if b then Done else Taken) yes)))
 
 pub returns-in-Ok-false-clause-cause : goal.returns-in-Ok-false-clause-cause
 returns-in-Ok-false-clause-cause g c =
@@ -54,3 +55,35 @@ returns-in-Ok-false-clause-named g c =
 
 pub returns-in-Err-clause-fails : goal.returns-in-Err-clause-fails
 returns-in-Err-clause-fails g c = has_before Fails _ _ _ (follows_on _ _ _ _ (follows_none _) c.remove.ensures) (has_now Fails _ _ _ c.in-Err.ensures refl)
+
+pub returns-in-Ok-clause-links : goal.returns-in-Ok-clause-links
+returns-in-Ok-clause-links g c =
+    let P = λ (l : List Call). l ≡ g.F.Folder.history c.args.folder.now in
+    links_on P _ _ _ _ (links_on P _ _ _ _ (links_on P _ _ _ _ (links_none P _) c.in-Ok-true.ensures refl) c.remove.ensures tt) c.settle.ensures.noted tt
+
+pub returns-in-Err-settle-clause-links : goal.returns-in-Err-settle-clause-links
+returns-in-Err-settle-clause-links g c =
+    let P = λ (l : List Call). l ≡ g.F.Folder.history c.args.folder.now in
+    links_on P _ _ _ _ (links_on P _ _ _ _ (links_on P _ _ _ _ (links_none P _) c.in-Ok-true.ensures refl) c.remove.ensures tt) c.settle.ensures.noted tt
+
+pub returns-in-Ok-false-clause-links : goal.returns-in-Ok-false-clause-links
+returns-in-Ok-false-clause-links g c =
+    let P = λ (l : List Call). l ≡ g.F.Folder.history c.args.folder.now in
+    links_more P _ _ _ (links_on P _ _ _ _ (links_on P _ _ _ _ (links_none P _) c.in-Ok-false.ensures refl) c.remove.ensures tt) (plain_links P _ _ c.keep.ensures.plain)
+
+pub returns-in-Err-clause-links : goal.returns-in-Err-clause-links
+returns-in-Err-clause-links g c =
+    let P = λ (l : List Call). l ≡ g.F.Folder.history c.args.folder.now in
+    links_on P _ _ _ _ (links_on P _ _ _ _ (links_none P _) c.in-Err.ensures refl) c.remove.ensures tt
+
+pub returns-in-Ok-clause-locks : goal.returns-in-Ok-clause-locks
+returns-in-Ok-clause-locks g c = ap lock_of c.settle.ensures.noted ∙ ap lock_of c.remove.ensures ∙ ap lock_of c.in-Ok-true.ensures
+
+pub returns-in-Err-settle-clause-locks : goal.returns-in-Err-settle-clause-locks
+returns-in-Err-settle-clause-locks g c = ap lock_of c.settle.ensures.noted ∙ ap lock_of c.remove.ensures ∙ ap lock_of c.in-Ok-true.ensures
+
+pub returns-in-Ok-false-clause-locks : goal.returns-in-Ok-false-clause-locks
+returns-in-Ok-false-clause-locks g c = plain_lock _ _ c.keep.ensures.plain ∙ ap lock_of c.remove.ensures ∙ ap lock_of c.in-Ok-false.ensures
+
+pub returns-in-Err-clause-locks : goal.returns-in-Err-clause-locks
+returns-in-Err-clause-locks g c = ap lock_of c.remove.ensures ∙ ap lock_of c.in-Err.ensures

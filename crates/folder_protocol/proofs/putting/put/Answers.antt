@@ -1,7 +1,9 @@
-use Rattle.std.proofs.Common.{inl}
+use Rattle.std.proofs.Common.{inl, ap, ◌∙◌}
 use Rattle.folder_protocol.specs.Causes.{Fails}
 use Rattle.folder_protocol.proofs.Causing.{follows_none, follows_on, has_before, looks_later, fails_later, all_named_later, parts_without, no_part_of}
 use Rattle.folder_protocol.proofs.Lines.{goes_on, joins}
+use Rattle.folder_history.specs.Call.{lock_of}
+use Rattle.folder_protocol.proofs.Linking.{plain_lock}
 use Rattle.folder_protocol.proofs.putting.put.Goals as goal
 
 pub returns-in-Ok-clause-in_turn : goal.returns-in-Ok-clause-in_turn
@@ -28,3 +30,9 @@ returns-in-Ok-clause-named g c =
 
 pub returns-in-Err-clause-fails : goal.returns-in-Err-clause-fails
 returns-in-Err-clause-fails g c = has_before Fails _ _ _ (follows_on _ _ _ _ (follows_none _) c.remove.ensures) c.in-Err.ensures.fails
+
+pub returns-in-Ok-clause-locks : goal.returns-in-Ok-clause-locks
+returns-in-Ok-clause-locks g c = c.place.ensures.locks ∙ plain_lock _ _ c.in-Ok.ensures.plain
+
+pub returns-in-Err-clause-locks : goal.returns-in-Err-clause-locks
+returns-in-Err-clause-locks g c = ap lock_of c.remove.ensures ∙ plain_lock _ _ c.in-Err.ensures.plain

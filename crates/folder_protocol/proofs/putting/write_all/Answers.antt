@@ -2,6 +2,7 @@ use Rattle.std.proofs.Common.{length-take, length-drop, arith, ◌∙◌, inl, i
 use Rattle.folder_protocol.specs.Causes.{Fails}
 use Rattle.folder_protocol.proofs.Lines.{goes_on, wrote_on, one_more}
 use Rattle.folder_protocol.proofs.Causing.{take_none, follows_on, has_now, has_later, on_err}
+use Rattle.folder_protocol.proofs.Linking.{plain_on}
 use Rattle.folder_protocol.proofs.putting.write_all.Goals as goal
 
 pub returns-in_err-taken-clause-fails : goal.returns-in_err-taken-clause-fails
@@ -24,6 +25,7 @@ returns-then-taken-eq0-clause-in_turn g c = λ parts temporary was.
 
 pub loop-done-preserved : goal.loop-done-preserved
 loop-done-preserved g c = record {
+  plain = plain_on _ _ _ _ c.loop-done.invariant.plain c.in_ok-taken.ensures.noted tt;
   follows = follows_on _ _ _ _ c.loop-done.invariant.follows c.in_ok-taken.ensures.noted;
   within =
       let bound = c.in_ok-taken.ensures.bound in
@@ -34,3 +36,12 @@ loop-done-preserved g c = record {
         wrote_on parts temporary _ _ _ _ so_far.1 c.in_ok-taken.ensures.noted ∙ one_more temporary c.args.bytes.now c.loop-done.done c.in_ok-taken.taken,
       );
 }
+
+pub returns-in_err-taken-clause-plain : goal.returns-in_err-taken-clause-plain
+returns-in_err-taken-clause-plain g c = plain_on _ _ _ _ c.loop-done.invariant.plain c.in_err-taken.ensures.noted tt
+
+pub returns-then-taken-eq0-clause-plain : goal.returns-then-taken-eq0-clause-plain
+returns-then-taken-eq0-clause-plain g c = plain_on _ _ _ _ c.loop-done.invariant.plain c.in_ok-taken.ensures.noted tt
+
+pub returns-clause-plain : goal.returns-clause-plain
+returns-clause-plain g c = c.loop-done.invariant.plain

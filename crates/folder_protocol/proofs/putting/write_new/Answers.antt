@@ -2,6 +2,7 @@ use Rattle.std.proofs.Common.{refl}
 use Rattle.folder_protocol.specs.Causes.{Fails}
 use Rattle.folder_protocol.proofs.Causing.{follows_none, follows_on, has_now, has_later, on_err, sync_fails, parts_without, no_part_of}
 use Rattle.folder_protocol.proofs.Lines.{starts, goes_on, joins, stage_on, ends_ready}
+use Rattle.folder_protocol.proofs.Linking.{plain_none, plain_on, plain_more}
 use Rattle.folder_protocol.proofs.putting.write_new.Goals as goal
 
 pub returns-in_err-make-clause-in_turn : goal.returns-in_err-make-clause-in_turn
@@ -35,3 +36,12 @@ returns-clause-fails g c =
     let made = goes_on parts _ _ _ _ (starts parts _) c.in_ok-make.ensures (no_part_of c.args.temporary.now) in
     let wrote = joins parts _ _ _ made (c.in_ok-write_all.ensures.in_turn parts c.args.temporary.now (stage_on parts _ _ _ c.in_ok-make.ensures)) in
     sync_fails c.sync.result _ _ _ (wrote.0, wrote.1) c.sync.ensures
+
+pub returns-in_err-make-clause-plain : goal.returns-in_err-make-clause-plain
+returns-in_err-make-clause-plain g c = plain_on _ _ _ _ (plain_none _) c.in_err-make.ensures tt
+
+pub returns-in_err-write_all-clause-plain : goal.returns-in_err-write_all-clause-plain
+returns-in_err-write_all-clause-plain g c = plain_more _ _ _ (plain_on _ _ _ _ (plain_none _) c.in_ok-make.ensures tt) c.in_err-write_all.ensures.plain
+
+pub returns-clause-plain : goal.returns-clause-plain
+returns-clause-plain g c = plain_on _ _ _ _ (plain_more _ _ _ (plain_on _ _ _ _ (plain_none _) c.in_ok-make.ensures tt) c.in_ok-write_all.ensures.plain) c.sync.ensures tt

@@ -1,10 +1,13 @@
-use Rattle.std.proofs.Common.{refl, ℕ, List, map, sym, subst, ⊎_elim, inl, inr, ◌∙◌}
+use Rattle.std.proofs.Common.{refl, ap, ℕ, List, map, sym, subst, ⊎_elim, inl, inr, ◌∙◌}
 use Rattle.folder_history.specs.Disk.{Among}
 use Rattle.std.specs.String.{string_bytes}
 use Rattle.folder_protocol.specs.Causes.{Fails}
 use Rattle.folder_protocol.proofs.Causing.{follows_on, has_now, has_later, on_err}
 use Rattle.folder_protocol.proofs.Lines.{removes_on, among_map, one_removed}
 use Rattle.folder_protocol.proofs.ReadLines.{among_more, among_all}
+use Rattle.folder_history.specs.Call.{Call}
+use Rattle.folder_history.specs.Turn.{stage_of}
+use Rattle.folder_protocol.proofs.Linking.{plain_on}
 use Rattle.folder_protocol.proofs.removing.remove_each.Goals as goal
 
 pub returns-in_err-remove-clause-in_turn : goal.returns-in_err-remove-clause-in_turn
@@ -14,6 +17,8 @@ returns-in_err-remove-clause-in_turn g c = λ parts packed guarded all.
 
 pub loop-at-preserved : goal.loop-at-preserved
 loop-at-preserved g c = record {
+  stays = λ parts. ap (λ (l : List Call). stage_of parts l) c.remove.ensures ∙ c.loop-at.invariant.stays parts;
+  plain = plain_on _ _ _ _ c.loop-at.invariant.plain c.remove.ensures tt;
   follows = follows_on _ _ _ _ c.loop-at.invariant.follows c.remove.ensures;
   told = λ parts packed guarded all.
       let so_far = c.loop-at.invariant.told parts packed guarded all in
@@ -31,3 +36,15 @@ returns-clause-gone g c =
 
 pub returns-in_err-remove-clause-fails : goal.returns-in_err-remove-clause-fails
 returns-in_err-remove-clause-fails g c = on_err c.from_residual.result (has_later Fails _ _ _ c.loop-at.invariant.follows (has_now Fails _ _ _ c.in_err-remove.ensures refl))
+
+pub returns-in_err-remove-clause-stays : goal.returns-in_err-remove-clause-stays
+returns-in_err-remove-clause-stays g c = λ parts. ap (λ (l : List Call). stage_of parts l) c.remove.ensures ∙ c.loop-at.invariant.stays parts
+
+pub returns-in_err-remove-clause-plain : goal.returns-in_err-remove-clause-plain
+returns-in_err-remove-clause-plain g c = plain_on _ _ _ _ c.loop-at.invariant.plain c.remove.ensures tt
+
+pub returns-clause-stays : goal.returns-clause-stays
+returns-clause-stays g c = λ parts. c.loop-at.invariant.stays parts
+
+pub returns-clause-plain : goal.returns-clause-plain
+returns-clause-plain g c = c.loop-at.invariant.plain

@@ -1,9 +1,10 @@
-use Rattle.std.proofs.Common.{refl, ap, [], ◌∷◌, true, map}
+use Rattle.std.proofs.Common.{refl, ap, List, [], ◌∷◌, true, map}
 use Rattle.std.specs.String.{string_bytes}
-use Rattle.folder_history.specs.Call.{lock_of, Locked, Unlocked, Exclusive}
+use Rattle.folder_history.specs.Call.{Call, lock_of, Locked, Unlocked, Exclusive}
 use Rattle.folder_protocol.specs.Causes.{Fails}
 use Rattle.folder_protocol.proofs.Causing.{follows_none, follows_on, has_now, on_err, looks_later, looks_before, fails_later, fails_before}
 use Rattle.folder_protocol.proofs.Lines.{starts, goes_on, joins, all_joined_later, answer_between}
+use Rattle.folder_protocol.proofs.Linking.{plain_links, links_none, links_on, links_more, guarded_unlocked}
 use Rattle.folder_protocol.proofs.removing.remove_joined.Goals as goal
 
 pub returns-in_err-lock-clause-in_turn : goal.returns-in_err-lock-clause-in_turn
@@ -31,3 +32,22 @@ pub returns-clause-fails : goal.returns-clause-fails
 returns-clause-fails g c =
     fails_before c.look_and_remove-outcome.result _ _ _ (follows_on _ _ _ _ (follows_none _) c.unlock.ensures)
     (fails_later c.look_and_remove-outcome.result _ _ _ (follows_on _ _ _ _ (follows_none _) c.in_ok-lock.ensures) c.look_and_remove-outcome.ensures.fails)
+
+pub returns-clause-stored : goal.returns-clause-stored
+returns-clause-stored g c = λ parts named.
+    guarded_unlocked c.look_and_remove-outcome.result parts c.args.bytes.now (g.F.Folder.history c.look_and_remove-outcome.new.folder) _ c.unlock.ensures
+    (c.look_and_remove-outcome.ensures.guarded parts named (ap lock_of c.in_ok-lock.ensures))
+
+pub returns-in_err-lock-clause-unlinked : goal.returns-in_err-lock-clause-unlinked
+returns-in_err-lock-clause-unlinked g c = links_on (λ (l : List Call). ⊥) _ _ _ _ (links_none (λ (l : List Call). ⊥) _) c.in_err-lock.ensures tt
+
+pub returns-clause-unlinked : goal.returns-clause-unlinked
+returns-clause-unlinked g c =
+    let P = λ (l : List Call). ⊥ in
+    links_on P _ _ _ _ (links_more P _ _ _ (links_on P _ _ _ _ (links_none P _) c.in_ok-lock.ensures tt) (plain_links P _ _ c.look_and_remove-outcome.ensures.plain)) c.unlock.ensures tt
+
+pub returns-in_err-lock-clause-unlocked : goal.returns-in_err-lock-clause-unlocked
+returns-in_err-lock-clause-unlocked g c = ap lock_of c.in_err-lock.ensures
+
+pub returns-clause-unlocked : goal.returns-clause-unlocked
+returns-clause-unlocked g c = ap lock_of c.unlock.ensures

@@ -1,10 +1,13 @@
-use Rattle.std.proofs.Common.{◌≡◌, Some, None, [], ◌∷◌, inl, true, refl, ap, map}
+use Rattle.std.proofs.Common.{◌≡◌, Some, None, List, [], ◌∷◌, inl, true, refl, ap, map}
 use Rattle.std.specs.String.{string_bytes}
-use Rattle.folder_history.specs.Call.{Locked, Unlocked, Exclusive, lock_of}
+use Rattle.folder_history.specs.Call.{Call, Locked, Unlocked, Exclusive, lock_of}
 use Rattle.folder_protocol.specs.Causes.{Fails, Lacks}
 use Rattle.folder_protocol.specs.declared.putting.Outcome.TheVariants.{OnDisk}
 use Rattle.folder_protocol.proofs.Causing.{follows_none, follows_on, has_now, has_before, looked_later, looked_before, fails_later, fails_before, cause_between}
 use Rattle.folder_protocol.proofs.Lines.{starts, goes_on, joins, all_joined_later, answer_between, ready_locked}
+use Rattle.folder_protocol.specs.Linking.{Watches, HasEach, LacksOne}
+use Rattle.folder_protocol.proofs.TakeLines.{stored_unlocked}
+use Rattle.folder_protocol.proofs.Linking.{links_none, links_on, links_more, all_links_between, all_was_between}
 use Rattle.folder_protocol.proofs.replacing.lock_and_replace.Goals as goal
 
 pub returns-in-Ok-clause-in_turn : goal.returns-in-Ok-clause-in_turn
@@ -38,3 +41,29 @@ pub returns-in-Ok-clause-overtaken : goal.returns-in-Ok-clause-overtaken
 returns-in-Ok-clause-overtaken g c =
     cause_between c.look_and_replace-outcome.result (λ answer. answer ≡ None) (Lacks (map string_bytes c.args.joined.now)) _ _ _ _ (follows_on _ _ _ _ (follows_none _) c.in-Ok.ensures)
     (follows_on _ _ _ _ (follows_none _) c.unlock.ensures) c.look_and_replace-outcome.ensures.overtaken
+
+pub returns-in-Ok-clause-stored : goal.returns-in-Ok-clause-stored
+returns-in-Ok-clause-stored g c = λ parts named.
+    stored_unlocked c.look_and_replace-outcome.result parts c.args.bytes.now (g.F.Folder.history c.look_and_replace-outcome.new.folder) _ c.unlock.ensures
+    (c.look_and_replace-outcome.ensures.stored parts named (ap lock_of c.in-Ok.ensures))
+
+pub returns-in-Ok-clause-links : goal.returns-in-Ok-clause-links
+returns-in-Ok-clause-links g c =
+    let P = Watches (HasEach (map string_bytes c.args.joined.now)) in
+    links_on P _ _ _ _ (links_more P _ _ _ (links_on P _ _ _ _ (links_none P _) c.in-Ok.ensures tt) (c.look_and_replace-outcome.ensures.links (ap lock_of c.in-Ok.ensures))) c.unlock.ensures tt
+
+pub returns-in-Err-clause-links : goal.returns-in-Err-clause-links
+returns-in-Err-clause-links g c =
+    let P = Watches (HasEach (map string_bytes c.args.joined.now)) in
+    links_on P _ _ _ _ (links_on P _ _ _ _ (links_none P _) c.in-Err.ensures tt) c.remove.ensures tt
+
+pub returns-in-Ok-clause-lacked : goal.returns-in-Ok-clause-lacked
+returns-in-Ok-clause-lacked g c =
+    all_was_between c.look_and_replace-outcome.result (λ answer. answer ≡ None) (Watches (LacksOne (map string_bytes c.args.joined.now))) _ _ _ _ (follows_on _ _ _ _ (follows_none _) c.in-Ok.ensures) (follows_on _ _ _ _ (follows_none _) c.unlock.ensures)
+    (c.look_and_replace-outcome.ensures.lacked (ap lock_of c.in-Ok.ensures))
+
+pub returns-in-Ok-clause-unlinked : goal.returns-in-Ok-clause-unlinked
+returns-in-Ok-clause-unlinked g c =
+    let P = λ (l : List Call). ⊥ in
+    all_links_between c.look_and_replace-outcome.result (λ answer. answer ≡ None) P _ _ _ _ (links_on P _ _ _ _ (links_none P _) c.in-Ok.ensures tt) (links_on P _ _ _ _ (links_none P _) c.unlock.ensures tt)
+    c.look_and_replace-outcome.ensures.unlinked

@@ -1,9 +1,12 @@
-use Rattle.std.proofs.Common.{rules, ◌≡◌, Some, [], inl, refl, ◌∙◌, map}
+use Rattle.std.proofs.Common.{rules, ◌≡◌, List, Some, [], inl, refl, ◌∙◌, map}
 use Rattle.std.specs.String.{string_bytes}
 use Rattle.folder_protocol.specs.Causes.{Fails, Lacks}
 use Rattle.folder_protocol.specs.declared.putting.Outcome.TheVariants.{OnDisk}
 use Rattle.folder_protocol.proofs.Causing.{follows_none, follows_on, has_before, looked_later, fails_later}
 use Rattle.folder_protocol.proofs.Lines.{goes_on, joins, all_joined_later, answer_between}
+use Rattle.folder_history.specs.Call.{Call}
+use Rattle.folder_protocol.specs.Linking.{Watches, HasEach, LacksOne}
+use Rattle.folder_protocol.proofs.Linking.{links_on, links_never, links_at, was_now, was_between, never_none}
 use Rattle.folder_protocol.proofs.replacing.look_and_replace.Goals as goal
 
 pub returns-in-Ok-true-clause-in_turn : goal.returns-in-Ok-true-clause-in_turn
@@ -36,3 +39,34 @@ returns-in-Err-clause-fails g c = has_before Fails _ _ _ (follows_on _ _ _ _ (fo
 
 pub returns-in-Ok-false-clause-overtaken : goal.returns-in-Ok-false-clause-overtaken
 returns-in-Ok-false-clause-overtaken g c = λ _. has_before (Lacks (map string_bytes c.args.joined.now)) _ _ _ (follows_on _ _ _ _ (follows_none _) c.remove.ensures) (c.in-Ok-false.ensures.lacking (search rules))
+
+pub returns-in-Ok-true-clause-stored : goal.returns-in-Ok-true-clause-stored
+returns-in-Ok-true-clause-stored g c = λ parts named lock. c.place_and_remove.ensures.stored parts named (c.in-Ok-true.ensures.locked ∙ lock)
+
+pub returns-in-Ok-true-clause-links : goal.returns-in-Ok-true-clause-links
+returns-in-Ok-true-clause-links g c = λ lock.
+    links_at (Watches (HasEach (map string_bytes c.args.joined.now))) _ _ _ c.in-Ok-true.ensures.links (c.in-Ok-true.ensures.watched lock (search rules)) c.place_and_remove.ensures.links
+
+pub returns-in-Ok-false-clause-links : goal.returns-in-Ok-false-clause-links
+returns-in-Ok-false-clause-links g c = λ lock.
+    let P = Watches (HasEach (map string_bytes c.args.joined.now)) in
+    links_on P _ _ _ _ (links_never P _ _ c.in-Ok-false.ensures.links) c.remove.ensures tt
+
+pub returns-in-Err-clause-links : goal.returns-in-Err-clause-links
+returns-in-Err-clause-links g c = λ lock.
+    let P = Watches (HasEach (map string_bytes c.args.joined.now)) in
+    links_on P _ _ _ _ (links_never P _ _ c.in-Err.ensures.links) c.remove-in-Err.ensures tt
+
+pub returns-in-Ok-true-clause-lacked : goal.returns-in-Ok-true-clause-lacked
+returns-in-Ok-true-clause-lacked g c = λ lock. never_none _ c.place_and_remove.result c.place_and_remove.ensures.some
+
+pub returns-in-Ok-true-clause-unlinked : goal.returns-in-Ok-true-clause-unlinked
+returns-in-Ok-true-clause-unlinked g c = never_none _ c.place_and_remove.result c.place_and_remove.ensures.some
+
+pub returns-in-Ok-false-clause-lacked : goal.returns-in-Ok-false-clause-lacked
+returns-in-Ok-false-clause-lacked g c = λ lock _.
+    let P = Watches (LacksOne (map string_bytes c.args.joined.now)) in
+    was_between P _ _ _ _ (follows_none _) (follows_on _ _ _ _ (follows_none _) c.remove.ensures) (was_now P _ _ c.in-Ok-false.ensures.follows (c.in-Ok-false.ensures.lacked lock (search rules)))
+
+pub returns-in-Ok-false-clause-unlinked : goal.returns-in-Ok-false-clause-unlinked
+returns-in-Ok-false-clause-unlinked g c = λ _. links_on (λ (l : List Call). ⊥) _ _ _ _ c.in-Ok-false.ensures.links c.remove.ensures tt

@@ -1,9 +1,10 @@
-use Rattle.std.proofs.Common.{[], inl, refl, ap, ◌∙◌, map}
+use Rattle.std.proofs.Common.{◌≡◌, List, [], inl, inr, refl, ap, ◌∙◌, map}
 use Rattle.std.specs.String.{string_bytes}
-use Rattle.folder_history.specs.Call.{lock_of}
+use Rattle.folder_history.specs.Call.{Call, lock_of}
 use Rattle.folder_protocol.specs.Causes.{Fails}
 use Rattle.folder_protocol.proofs.Causing.{follows_none, follows_on, has_now, has_later, has_before, look_later}
 use Rattle.folder_protocol.proofs.Lines.{starts, goes_on, joins, all_joined_later, removed_between, some_is}
+use Rattle.folder_protocol.proofs.Linking.{plain_links, links_none, links_on, links_more}
 use Rattle.folder_protocol.proofs.replacing.place_and_remove.Goals as goal
 
 pub returns-in-Ok-look_and_remove-clause-in_turn : goal.returns-in-Ok-look_and_remove-clause-in_turn
@@ -38,3 +39,22 @@ returns-in-Err-clause-in_turn g c = λ parts named temp ready lock joined.
 
 pub returns-in-Err-clause-fails : goal.returns-in-Err-clause-fails
 returns-in-Err-clause-fails g c = has_before Fails _ _ _ (follows_on _ _ _ _ (follows_none _) c.remove.ensures) (has_now Fails _ _ _ c.in-Err.ensures refl)
+
+pub returns-in-Ok-look_and_remove-clause-stored : goal.returns-in-Ok-look_and_remove-clause-stored
+returns-in-Ok-look_and_remove-clause-stored g c = λ parts named lock is.
+    inr (c.in-Ok-look_and_remove.ensures.guarded parts named (ap lock_of c.remove.ensures ∙ ap lock_of c.in-Ok.ensures ∙ lock) (some_is is))
+
+pub returns-in-Ok-look_and_remove-clause-links : goal.returns-in-Ok-look_and_remove-clause-links
+returns-in-Ok-look_and_remove-clause-links g c =
+    let P = λ (l : List Call). l ≡ g.F.Folder.history c.args.folder.now in
+    links_more P _ _ _ (links_on P _ _ _ _ (links_on P _ _ _ _ (links_none P _) c.in-Ok.ensures refl) c.remove.ensures tt) (plain_links P _ _ c.look_and_remove.ensures.plain)
+
+pub returns-in-Err-look_and_remove-clause-links : goal.returns-in-Err-look_and_remove-clause-links
+returns-in-Err-look_and_remove-clause-links g c =
+    let P = λ (l : List Call). l ≡ g.F.Folder.history c.args.folder.now in
+    links_more P _ _ _ (links_on P _ _ _ _ (links_on P _ _ _ _ (links_none P _) c.in-Ok.ensures refl) c.remove.ensures tt) (plain_links P _ _ c.look_and_remove.ensures.plain)
+
+pub returns-in-Err-clause-links : goal.returns-in-Err-clause-links
+returns-in-Err-clause-links g c =
+    let P = λ (l : List Call). l ≡ g.F.Folder.history c.args.folder.now in
+    links_on P _ _ _ _ (links_on P _ _ _ _ (links_none P _) c.in-Err.ensures refl) c.remove.ensures tt

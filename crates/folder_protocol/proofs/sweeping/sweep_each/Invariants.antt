@@ -6,7 +6,8 @@ use Rattle.folder_history.specs.Parts.{Parts, IsNoPart}
 use Rattle.folder_history.specs.Turn.{Gave, listing_of}
 use Rattle.folder_protocol.specs.Causes.{HasCall}
 use Rattle.folder_protocol.specs.Goes.{GoesInTurn}
-use Rattle.folder_protocol.specs.Sweeping.{Tries}
+use Rattle.folder_protocol.specs.Linking.{GoesPlainly}
+use Rattle.folder_protocol.specs.Sweeping.{Tries, RemovesTemporaries}
 use Rattle.folder_protocol.specs.Temporary.{is_temporary}
 use Rattle.folder_protocol.proofs.Causing.{Follows}
 use Rattle.folder_protocol.proofs.sweeping.sweep_each.Given as goal
@@ -15,6 +16,8 @@ abbrev pub invariant-loop-at : goal.invariant-loop-at
 invariant-loop-at g l =
     let history = g.F.Folder.history in
     record {
+      plain : GoesPlainly (history l.fn.folder) (history l.folder);
+      only : RemovesTemporaries (history l.fn.folder) (history l.folder);
       follows : Follows (history l.fn.folder) (history l.folder);
       goes : (parts : Parts) → ((name : List ℕ) → is_temporary name ≡ true → IsNoPart parts name) → GoesInTurn parts (history l.fn.folder) (history l.folder);
       listing : (listed : List (List ℕ)) → listing_of (history l.fn.folder) ≡ Gave listed → listing_of (history l.folder) ≡ Gave listed;

@@ -3,6 +3,7 @@ use Rattle.std.specs.String.{string_bytes}
 use Rattle.folder_history.specs.Turn.{Gave}
 use Rattle.folder_protocol.proofs.Lines.{joins}
 use Rattle.folder_protocol.proofs.TakeLines.{some_parts, found_taken, untaken_later}
+use Rattle.folder_protocol.proofs.Linking.{plain_lock}
 use Rattle.folder_protocol.proofs.taking.take_all.Goals as goal
 
 pub returns-in-Ok-take_listed-clause-in_turn : goal.returns-in-Ok-take_listed-clause-in_turn
@@ -22,3 +23,9 @@ pub returns-in-Err-take_listed-clause-cause : goal.returns-in-Err-take_listed-cl
 returns-in-Err-take_listed-clause-cause g c =
     let lists = c.list_names.ensures.in_turn some_parts in
     untaken_later c.in-Err-take_listed.fault _ _ _ (lists.0, lists.1) c.in-Err-take_listed.ensures.cause
+
+pub returns-in-Ok-take_listed-clause-unlocked : goal.returns-in-Ok-take_listed-clause-unlocked
+returns-in-Ok-take_listed-clause-unlocked g c = plain_lock _ _ c.take_listed.ensures.plain ∙ c.list_names.ensures.unlocked
+
+pub returns-in-Err-take_listed-clause-unlocked : goal.returns-in-Err-take_listed-clause-unlocked
+returns-in-Err-take_listed-clause-unlocked g c = plain_lock _ _ c.take_listed.ensures.plain ∙ c.list_names.ensures.unlocked

@@ -3,12 +3,14 @@ use Rattle.std.specs.String.{string_bytes}
 use Rattle.folder_protocol.proofs.Lines.{joins}
 use Rattle.folder_protocol.proofs.ReadLines.{among_more, among_all}
 use Rattle.folder_protocol.proofs.TakeLines.{some_parts, taken_on, taken_now, read_on, untaken_later}
+use Rattle.folder_protocol.proofs.Linking.{plain_more}
 use Rattle.folder_protocol.proofs.taking.take_each.Goals as goal
 
 pub loop-at-preserved : goal.loop-at-preserved
 loop-at-preserved g c =
     let T = g.T.Taker in
     record {
+      plain = plain_more _ _ _ c.loop-at.invariant.plain c.take_one.ensures.plain;
       within = let below = c.loop-at-test.true in omega (arith, below);
       goes = λ parts. joins parts _ _ _ (c.loop-at.invariant.goes parts) (c.take_one.ensures.in_turn parts);
       named = c.take_one.ensures.named ∙ c.loop-at.invariant.named;
@@ -31,3 +33,9 @@ returns-in-Err-clause-cause g c =
 
 pub returns-clause-taken : goal.returns-clause-taken
 returns-clause-taken g c = λ parts is name among. c.loop-at.invariant.each parts is name (among_all string_bytes c.args.names.now c.loop-at.at name (let above = c.loop-at-test.false in omega (arith, above)) among)
+
+pub returns-in-Err-clause-plain : goal.returns-in-Err-clause-plain
+returns-in-Err-clause-plain g c = plain_more _ _ _ c.loop-at.invariant.plain c.take_one.ensures.plain
+
+pub returns-clause-plain : goal.returns-clause-plain
+returns-clause-plain g c = c.loop-at.invariant.plain

@@ -4,6 +4,7 @@ use Rattle.folder_history.specs.Disk.{Among}
 use Rattle.folder_history.specs.Parts.{Parts}
 use Rattle.folder_history.specs.Turn.{listing_of}
 use Rattle.folder_protocol.specs.Goes.{GoesInTurn}
+use Rattle.folder_protocol.specs.Linking.{GoesPlainly}
 use Rattle.folder_protocol.specs.Taking.{IsTaken, AreReadSince}
 use Rattle.folder_protocol.proofs.taking.take_each.Given as goal
 
@@ -13,6 +14,7 @@ invariant-loop-at g l =
     let history = g.F.Folder.history in
     let T = g.T.Taker in
     record {
+      plain : GoesPlainly (history l.fn.folder) (history l.folder);
       within : l.at ≤ length l.names;
       goes : (parts : Parts) → GoesInTurn parts (history l.fn.folder) (history l.folder);
       named : T.name_of l.taker ≡ T.name_of l.fn.taker;

@@ -3,6 +3,7 @@ use Rattle.folder_protocol.specs.Causes.{Fails, FindsNone}
 use Rattle.folder_protocol.proofs.Causing.{has_now}
 use Rattle.folder_protocol.proofs.Lines.{starts, goes_on}
 use Rattle.folder_protocol.proofs.ReadLines.{unopened}
+use Rattle.folder_protocol.proofs.Linking.{plain_none, plain_on}
 use Rattle.folder_protocol.proofs.taking.take_one.Goals as goal
 
 pub returns-in-Ok-clause-in_turn : goal.returns-in-Ok-clause-in_turn
@@ -25,3 +26,18 @@ returns-clause-in_turn g c = λ parts. goes_on parts _ _ _ _ (starts parts _) c.
 
 pub returns-clause-cause : goal.returns-clause-cause
 returns-clause-cause g c = has_now Fails _ _ _ c.in-Err.ensures refl
+
+pub returns-then-not-wants-clause-plain : goal.returns-then-not-wants-clause-plain
+returns-then-not-wants-clause-plain g c = plain_none _
+
+pub returns-in-Ok-clause-plain : goal.returns-in-Ok-clause-plain
+returns-in-Ok-clause-plain g c = plain_on _ _ _ _ (plain_none _) c.in-Ok-Some.ensures tt
+
+pub returns-in-Ok-Some-clause-plain : goal.returns-in-Ok-Some-clause-plain
+returns-in-Ok-Some-clause-plain g c = plain_on _ _ _ _ (plain_none _) c.in-Ok-Some.ensures tt
+
+pub returns-in-Ok-None-clause-plain : goal.returns-in-Ok-None-clause-plain
+returns-in-Ok-None-clause-plain g c = plain_on _ _ _ _ (plain_none _) c.in-Ok-None.ensures tt
+
+pub returns-clause-plain : goal.returns-clause-plain
+returns-clause-plain g c = plain_on _ _ _ _ (plain_none _) c.in-Err.ensures tt

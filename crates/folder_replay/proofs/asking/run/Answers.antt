@@ -12,8 +12,8 @@ returns-clause-in_turn g c = asks_more c.into_step.result _ _ c.into_step.ensure
     (c.run-outcome.ensures.in_turn parts (subst (λ (l : List Call). g.P.Program.may_run c.args.program.now parts l) (sym c.new-folder.ensures) may)) all))
 
 pub returns-clause-whatever : goal.returns-clause-whatever
-returns-clause-whatever g c = asks_more c.into_step.result _ _ c.into_step.ensures.asks (λ request stops parts all may answer.
-    whatever parts (call_asked g.S.Script.whole request) g.S.Script.calls answer
+returns-clause-whatever g c = asks_more c.into_step.result _ _ c.into_step.ensures.asks (λ request stops parts can all may answer.
+    whatever parts (call_asked g.S.Script.whole request) g.S.Script.calls answer can
     (run_asks parts g.S.Script.whole request g.S.Script.before _ _ g.S.Script.calls c.new-folder.ensures stops
     (c.run-outcome.ensures.in_turn parts (subst (λ (l : List Call). g.P.Program.may_run c.args.program.now parts l) (sym c.new-folder.ensures) may)) all))
 

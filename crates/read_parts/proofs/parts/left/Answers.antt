@@ -10,4 +10,4 @@ use Rattle.read_parts.proofs.parts.left.Goals as goal
 pub returns : goal.returns
 returns c =
     of_join (λ (r : Replica). IfOk c.left_of.result (λ both. (left : Replica) × (forgetting r ≡ Ok ((both.0.batches, both.0.rows), left)) × (not (both.0.batches == 0) ≡ true → (both.1.items ≡ file_of left) × (held_in (file_of left) ≡ Ok (as_held left)))))
-    c.args.join c.in_ok-store.store.replica c.in_ok-store.ensures.store c.left_of.ensures
+    c.args.join c.in_ok-store.store.replica c.in_ok-store.ensures.store c.left_of.ensures.left

@@ -11,9 +11,9 @@ use Rattle.folder_replay.proofs.turn.Turn.step.Goals as goal
 pub returns-clause-in_turn : goal.returns-clause-in_turn
 returns-clause-in_turn g c = let turn = c.args.self.now in asks_more c.next.result _ _ c.next.ensures.in_turn (λ request asked parts all may.
     holds_after (λ (whole : List ℕ) (calls : List Call). InTurn parts calls (call_asked whole request))
-    c.as_slice.result.now turn.order.bytes.items c.as_slice-2.result.now turn.told.items g.before c.as_slice.ensures.value c.as_slice-2.ensures.value (asked parts all may))
+    c.as_slice.result.now turn.order.bytes.items c.as_slice-2.result.now turn.told.items g.before c.as_slice.ensures.value c.as_slice-2.ensures.value (asked parts may.0 all may))
 
 pub returns-clause-ends : goal.returns-clause-ends
 returns-clause-ends g c = let turn = c.args.self.now in ends_more c.next.result _ _ c.next.ensures.ends (λ end said parts may.
     holds_after (λ (whole : List ℕ) (calls : List Call). EndSays turn.order.task (matter_of turn.order) end parts g.before calls)
-    c.as_slice.result.now turn.order.bytes.items c.as_slice-2.result.now turn.told.items g.before c.as_slice.ensures.value c.as_slice-2.ensures.value (said parts may))
+    c.as_slice.result.now turn.order.bytes.items c.as_slice-2.result.now turn.told.items g.before c.as_slice.ensures.value c.as_slice-2.ensures.value (said parts may.0 may))

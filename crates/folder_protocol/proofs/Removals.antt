@@ -1,0 +1,53 @@
+-- How calls lead on that remove names.
+use Rattle.std.proofs.Common.{◌≡◌, MatchResult, ℕ, Result, Ok, Err, Option, Some, None, List, [], ◌∷◌, ◌++◌, refl, sym, ◌∙◌, ap, append_assoc}
+use Rattle.folder_history.specs.Call.{Call, Made, Wrote, Synced, Linked, Removed, Settled, Locked, Unlocked, Began, Listed, Read, Looked}
+use Rattle.folder_protocol.specs.Sweeping.{RemovesSuch, EachRemovesSuch, RemovesOnly}
+
+module _ (P : List ℕ → Type 0) where
+  pub removes_none : (h : List Call) → RemovesOnly P h h
+  removes_none h = ([], refl, tt)
+
+  pub removes_on : (before mid after : List Call) (call : Call) → RemovesOnly P before mid → after ≡ call ∷ mid → RemovesSuch P call → RemovesOnly P before after
+  removes_on before mid after call so_far is such = (call ∷ so_far.0, is ∙ ap (λ (l : List Call). call ∷ l) so_far.1, (such, so_far.2))
+
+  each_both : (later earlier : List Call) → EachRemovesSuch P later → EachRemovesSuch P earlier → EachRemovesSuch P (later ++ earlier)
+  each_both [] earlier first second = second
+  each_both (call ∷ later) earlier (such, first) second = (such, each_both later earlier first second)
+
+  pub removes_more : (before mid after : List Call) → RemovesOnly P before mid → RemovesOnly P mid after → RemovesOnly P before after
+  removes_more before mid after first second = (
+    second.0 ++ first.0,
+    second.1 ∙ ap (λ (l : List Call). second.0 ++ l) first.1 ∙ sym (append_assoc second.0 first.0 before),
+    each_both second.0 first.0 second.2 first.2,
+  )
+
+  -- a listing removes nothing
+  pub lists_remove : (answer : Option (List (List ℕ))) (h after : List Call) → after ≡ Listed answer ∷ Began ∷ h → RemovesOnly P h after
+  lists_remove answer h after is = (Listed answer ∷ Began ∷ [], is, (tt, (tt, tt)))
+
+  pub lists_remove_either : {T E : Type 0} (names : T → List (List ℕ)) (r : Result T E) (h after : List Call)
+      → MatchResult r (λ x. after ≡ Listed (Some (names x)) ∷ Began ∷ h) (λ _. after ≡ Listed None ∷ Began ∷ h) → RemovesOnly P h after
+  lists_remove_either names (Ok x) h after is = lists_remove (Some (names x)) h after is
+  lists_remove_either names (Err e) h after is = lists_remove None h after is
+
+  -- who removes nothing removes only such
+  such_never : (call : Call) → RemovesSuch (λ name. ⊥) call → RemovesSuch P call
+  such_never (Made name ok) none = tt
+  such_never (Wrote bytes ok) none = tt
+  such_never (Synced ok) none = tt
+  such_never (Linked from to answer) none = tt
+  such_never (Removed name ok) none = absurd none
+  such_never (Settled ok) none = tt
+  such_never (Locked kind ok) none = tt
+  such_never Unlocked none = tt
+  such_never Began none = tt
+  such_never (Listed answer) none = tt
+  such_never (Read name answer) none = tt
+  such_never (Looked name ok) none = tt
+
+  each_never : (calls : List Call) → EachRemovesSuch (λ name. ⊥) calls → EachRemovesSuch P calls
+  each_never [] none = tt
+  each_never (call ∷ calls) (none, rest) = (such_never call none, each_never calls rest)
+
+  pub removes_never : (before after : List Call) → RemovesOnly (λ name. ⊥) before after → RemovesOnly P before after
+  removes_never before after (calls, is, none) = (calls, is, each_never calls none)
