@@ -13,7 +13,7 @@ ghost use Rattle.file_home.specs.Rewriting.{Rewrites};
 use crate::Outcome;
 use crate::rewriting::{joined, opened, written};
 use crate::under_lock::{finish, leave, read_file};
-use file_replacing::{Folder, Place};
+use file_replacing::{FileFolder, Place};
 use replica_commands::{Answer, Command, bring};
 use replica_store::Store;
 use std::alloc::Global;
@@ -49,7 +49,7 @@ fn changed(alloc: Global, file: Vec<u8>, command: Command<'_>) -> Result<(Answer
 
 /// Does a command on a file whose lock the caller has, under the refusals of reading the file and of [`replica_commands::bring`]: all of
 /// it, or nothing.
-pub fn change<F: Folder>(
+pub fn change<F: FileFolder>(
     alloc: Global,
     folder: &mut F,
     place: &Place,

@@ -10,7 +10,7 @@ ghost use Rattle.file_home.specs.Refused.{IsWhyUnmade};
 
 use crate::putting::put;
 use crate::under_lock::{leave, refusal_in_memory};
-use file_replacing::{Folder, Place, Replaced};
+use file_replacing::{FileFolder, Place, Replaced};
 use std::alloc::Global;
 use table_model::{ColType, Counted, Refusal};
 
@@ -28,7 +28,7 @@ fn created(alloc: Global, table: &str, columns: &[(&str, ColType)]) -> Result<Ve
 }
 
 /// Makes the file of an empty table, whose lock the caller has, under the refusals of [`replica_commands::create`].
-pub fn create<F: Folder>(
+pub fn create<F: FileFolder>(
     alloc: Global,
     folder: &mut F,
     place: &Place,

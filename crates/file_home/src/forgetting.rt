@@ -12,7 +12,7 @@ ghost use Rattle.file_home.specs.Refused.{IsRefusedOver, IsWhyRefused};
 use crate::Outcome;
 use crate::rewriting::{opened, written};
 use crate::under_lock::{finish, leave, read_file};
-use file_replacing::{Folder, Place};
+use file_replacing::{FileFolder, Place};
 use replica_commands::forget_dead;
 use replica_store::Forgotten;
 use std::alloc::Global;
@@ -32,7 +32,7 @@ fn forgotten(alloc: Global, file: Vec<u8>) -> Result<(Forgotten, Vec<u8>), Refus
 }
 
 /// Drops the batches of which every row is deleted, of a file whose lock the caller has, under the refusals of [`replica_commands::forget`].
-pub fn forget<F: Folder>(
+pub fn forget<F: FileFolder>(
     alloc: Global,
     folder: &mut F,
     place: &Place,

@@ -13,7 +13,7 @@ use crate::Outcome;
 use crate::changing::made;
 use crate::rewriting::opened;
 use crate::under_lock::{finish, leave, read_file};
-use file_replacing::{Folder, Place};
+use file_replacing::{FileFolder, Place};
 use replica_commands::Command;
 use replica_store::Store;
 use std::alloc::Global;
@@ -68,7 +68,7 @@ fn held_rows_deleted(
 
 /// Deletes rows by their names, if their batch is held, of a file whose lock the caller has, under the refusals of [`change`](crate::change)
 /// by [`Command::DeleteRows`].
-pub fn delete_held_rows<F: Folder>(
+pub fn delete_held_rows<F: FileFolder>(
     alloc: Global,
     folder: &mut F,
     place: &Place,

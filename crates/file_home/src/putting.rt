@@ -7,11 +7,11 @@ ghost use Rattle.file_replacing.specs.Owning.{GivesBack};
 ghost use Rattle.file_replacing.specs.Safe.{OldOrNew, IsNew, IsInPlace, LeavesNoLock};
 ghost use Rattle.file_replacing.specs.declared.outcome.Replaced.TheVariants.{Synced};
 
-use file_replacing::{Folder, Place, Replaced, replace};
+use file_replacing::{FileFolder, Place, Replaced, replace};
 use table_model::Refusal;
 
 /// Puts these bytes in the place of a file whose lock the caller has. If that fails, `WriteFault`.
-pub fn put<F: Folder>(folder: &mut F, place: &Place, bytes: &[u8]) -> Result<Replaced, Refusal>
+pub fn put<F: FileFolder>(folder: &mut F, place: &Place, bytes: &[u8]) -> Result<Replaced, Refusal>
     ensures any_moment { OldOrNew (string_bytes place.now.lock) (string_bytes place.now.name) bytes.now (F.history folder.old) (F.history folder.new) }
     ensures synced { IfOk result (λ how. how ≡ Synced → IsNew (string_bytes place.now.lock) (string_bytes place.now.name) bytes.now (F.history folder.old) (F.history folder.new)) }
     ensures in_place { OnOk result (IsInPlace (string_bytes place.now.lock) (string_bytes place.now.name) bytes.now (F.history folder.old) (F.history folder.new)) }

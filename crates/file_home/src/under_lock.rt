@@ -12,13 +12,13 @@ ghost use Rattle.file_home.specs.Refused.{IsWhyUnread};
 
 use crate::Left;
 use crate::putting::put;
-use file_replacing::{Folder, Place, keep};
+use file_replacing::{FileFolder, Place, keep};
 use std::alloc::Global;
 use std::io::{self, ErrorKind};
 use table_model::Refusal;
 
 /// The bytes of the file. If they can't be read, the lock is given back.
-pub(crate) fn read_file<F: Folder>(
+pub(crate) fn read_file<F: FileFolder>(
     alloc: Global,
     folder: &mut F,
     place: &Place,
@@ -53,7 +53,7 @@ fn refusal_of_read(error: &io::Error) -> Refusal
 }
 
 /// Gives the lock of a file back, which the caller has, with the file as it was.
-pub fn leave<F: Folder>(folder: &mut F, place: &Place)
+pub fn leave<F: FileFolder>(folder: &mut F, place: &Place)
     ensures locks { OnlyLocks (string_bytes place.now.lock) (F.history folder.old) (F.history folder.new) }
     ensures own { GivesBack (string_bytes place.now.lock) (F.history folder.old) (F.history folder.new) }
 {
@@ -61,7 +61,7 @@ pub fn leave<F: Folder>(folder: &mut F, place: &Place)
 }
 
 /// Puts the bytes in the file's place if it is changed, and else has it on the disk as it is. The lock is given back.
-pub(crate) fn finish<F: Folder>(
+pub(crate) fn finish<F: FileFolder>(
     folder: &mut F,
     place: &Place,
     is_changed: bool,

@@ -6,7 +6,7 @@ use std::alloc::Global;
 use std::io;
 
 /// A folder with one open file. Each call is recorded with its answer.
-pub trait Folder {
+pub trait FileFolder {
     /// Each call so far with its answer, the newest first.
     ghost history: { Self → List Event };
 

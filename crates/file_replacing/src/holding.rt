@@ -6,7 +6,7 @@ ghost use Rattle.file_replacing.specs.Locking.{OnlyLocks};
 ghost use Rattle.file_replacing.specs.Owning.{OwnsAll, GetsLock};
 ghost use Rattle.file_replacing.specs.Failed.{HasFailed};
 
-use crate::{Folder, Place};
+use crate::{FileFolder, Place};
 use patience::Patience;
 use std::error::Error;
 use std::fmt;
@@ -38,7 +38,7 @@ impl Error for HoldError {}
 
 /// Has the lock of a file, which need not be there. The lock is an empty file that this process made, with the mode of the one that is
 /// held.
-pub fn hold<R: Clock, F: Folder>(rt: &R, folder: &mut F, place: &Place) -> Result<(), HoldError>
+pub fn hold<R: Clock, F: FileFolder>(rt: &R, folder: &mut F, place: &Place) -> Result<(), HoldError>
     // Whatever others do, it is had.
     ensures held { OnOk result (TakesLock (string_bytes place.now.lock) (string_bytes place.now.name) (F.history folder.old) (F.history folder.new)) }
     // A crash at any moment leaves the file as it was, or as others left it.
@@ -54,7 +54,7 @@ pub fn hold<R: Clock, F: Folder>(rt: &R, folder: &mut F, place: &Place) -> Resul
 }
 
 /// Has a lock, with the mode of its file.
-fn lock_and_take_mode<R: Clock, F: Folder>(
+fn lock_and_take_mode<R: Clock, F: FileFolder>(
     rt: &R,
     folder: &mut F,
     lock: &str,
@@ -75,7 +75,7 @@ fn lock_and_take_mode<R: Clock, F: Folder>(
 }
 
 /// Waits for a lock until nobody else has it.
-fn wait<R: Clock, F: Folder>(rt: &R, folder: &mut F, lock: &str) -> Result<(), HoldError>
+fn wait<R: Clock, F: FileFolder>(rt: &R, folder: &mut F, lock: &str) -> Result<(), HoldError>
     ensures held { (name : List ℕ) → lock.now ≢ name → OnOk result (TakesLock lock.now name (F.history folder.old) (F.history folder.new)) }
     ensures locks { OnlyLocks lock.now (F.history folder.old) (F.history folder.new) }
     ensures own { OwnsAll lock.now (F.history folder.old) (F.history folder.new) }
@@ -101,7 +101,7 @@ fn wait<R: Clock, F: Folder>(rt: &R, folder: &mut F, lock: &str) -> Result<(), H
 /// Tries once to have a lock: makes it or opens it, locks it, and sees that its name is still its own. A lock that was there already is
 /// removed once it is locked, and is not taken then: the next try makes a new one. The error is `AlreadyExists` if what has the name
 /// can't be taken.
-pub fn try_hold<F: Folder>(folder: &mut F, lock: &str) -> io::Result<bool>
+pub fn try_hold<F: FileFolder>(folder: &mut F, lock: &str) -> io::Result<bool>
     ensures held { (name : List ℕ) → lock.now ≢ name → IfOk result (λ is_held. is_held ≡ true → TakesLock lock.now name (F.history folder.old) (F.history folder.new)) }
     ensures locks { OnlyLocks lock.now (F.history folder.old) (F.history folder.new) }
     ensures own { OwnsAll lock.now (F.history folder.old) (F.history folder.new) }

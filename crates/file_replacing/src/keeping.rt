@@ -8,12 +8,12 @@ ghost use Rattle.file_replacing.specs.Owning.{OwnLock, Owns, GivesBack};
 ghost use Rattle.file_replacing.specs.Safe.{StaysOld, OnlyOurs, StaysKept};
 ghost use Rattle.file_replacing.specs.Whole.{StaysOnDisk};
 
-use crate::{Folder, Place};
+use crate::{FileFolder, Place};
 use std::io;
 
 /// Has a file on the disk as it is, whose lock the caller has, and gives the lock back. The file is synced, and then its folder. The error is
 /// that of the first call that failed: then a loss of power may leave something else.
-pub fn keep<F: Folder>(folder: &mut F, place: &Place) -> io::Result<()>
+pub fn keep<F: FileFolder>(folder: &mut F, place: &Place) -> io::Result<()>
     // Once the answer is Ok a crash leaves what the file had when the lock was had.
     ensures on_disk { OnOk result (StaysOnDisk (string_bytes place.now.lock) (string_bytes place.now.name) (F.history folder.old) (F.history folder.new)) }
     // Whatever is answered, a crash at any moment leaves what it could leave before.
@@ -33,7 +33,7 @@ pub fn keep<F: Folder>(folder: &mut F, place: &Place) -> io::Result<()>
 }
 
 /// Syncs a file and then its folder.
-fn sync_both<F: Folder>(folder: &mut F, name: &str) -> io::Result<()>
+fn sync_both<F: FileFolder>(folder: &mut F, name: &str) -> io::Result<()>
     ensures synced { OnOk result (F.history folder.new ≡ Settled true ∷ SyncedFile name.now true ∷ F.history folder.old) }
     ensures keeps { (lock : List ℕ) → OnlyKeeps lock (F.history folder.old) (F.history folder.new) }
     ensures own { (lock : List ℕ) → Owns lock (F.history folder.old) OwnLock (F.history folder.new) OwnLock }

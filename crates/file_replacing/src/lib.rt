@@ -14,14 +14,14 @@ mod replacing;
 mod system;
 mod watch;
 
-pub use folder::Folder;
+pub use folder::FileFolder;
 pub use holding::{HoldError, hold, try_hold};
 pub use keeping::keep;
 pub use laws::{holding_then_replacing, owners_leave_alone, restarts};
 pub use names::folder_of;
 pub use outcome::{ReplaceError, Replaced};
 pub use place::Place;
-pub use record::Record;
+pub use record::FileRecord;
 pub use replacing::replace;
-pub use system::SystemFolder;
+pub use system::SystemFileFolder;
 pub use watch::{ReadWatch, Unwatched};

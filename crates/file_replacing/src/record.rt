@@ -31,21 +31,21 @@ const SYNCED_FILE: u64 = 10;
 
 /// The calls of a folder so far, each with its answer. It takes no memory, and does nothing.
 #[derive(Drop)]
-pub struct Record {
+pub struct FileRecord {
     marker: PhantomData<u8>,
     pub ghost noted: { List Noted },
 }
 
-impl Model for Record {
+impl Model for FileRecord {
     ghost also_owns = { λ _. ftrue };
 }
 
-impl Record {
+impl FileRecord {
     /// No call was made yet.
-    pub fn new() -> Record
+    pub fn new() -> FileRecord
         ensures { result.noted ≡ [] }
     {
-        Record {
+        FileRecord {
             marker: PhantomData,
         }
     }

@@ -8,11 +8,11 @@ ghost use Rattle.file_replacing.specs.Owning.{OwnLock, Owns, GivesBack};
 ghost use Rattle.file_replacing.specs.Failed.{HasFailed};
 
 use crate::outcome::{ReplaceError, Replaced};
-use crate::{Folder, Place};
+use crate::{FileFolder, Place};
 use std::io;
 
 /// Puts these bytes in the place of a file whose lock the caller has.
-pub fn replace<F: Folder>(
+pub fn replace<F: FileFolder>(
     folder: &mut F,
     place: &Place,
     bytes: &[u8],
@@ -38,7 +38,7 @@ pub fn replace<F: Folder>(
 }
 
 /// The same, by how far it comes.
-fn exchange<F: Folder>(
+fn exchange<F: FileFolder>(
     folder: &mut F,
     lock: &str,
     name: &str,
@@ -62,7 +62,7 @@ fn exchange<F: Folder>(
 }
 
 /// Writes the bytes to the lock's file, and has them on the disk. The folder is opened first: if that fails, nothing was done.
-fn fill<F: Folder>(folder: &mut F, lock: &str, name: &str, bytes: &[u8]) -> io::Result<()>
+fn fill<F: FileFolder>(folder: &mut F, lock: &str, name: &str, bytes: &[u8]) -> io::Result<()>
     ensures ok { OnOk result (Goes lock.now name.now bytes.now (F.history folder.old) Holding (F.history folder.new) (Ready bytes.now)) }
     ensures err { OnErr result (GoesBack lock.now name.now bytes.now (F.history folder.old) Holding (F.history folder.new)) }
     ensures own { Owns lock.now (F.history folder.old) OwnLock (F.history folder.new) OwnLock }
@@ -75,7 +75,7 @@ fn fill<F: Folder>(folder: &mut F, lock: &str, name: &str, bytes: &[u8]) -> io::
 }
 
 /// Writes the bytes, in as many pieces as it takes.
-fn write_all<F: Folder>(folder: &mut F, lock: &str, name: &str, bytes: &[u8]) -> io::Result<()>
+fn write_all<F: FileFolder>(folder: &mut F, lock: &str, name: &str, bytes: &[u8]) -> io::Result<()>
     ensures ok { OnOk result (Goes lock.now name.now bytes.now (F.history folder.old) (Filled []) (F.history folder.new) (Filled bytes.now)) }
     ensures err { OnErr result (GoesBack lock.now name.now bytes.now (F.history folder.old) (Filled []) (F.history folder.new)) }
     ensures own { Owns lock.now (F.history folder.old) OwnLock (F.history folder.new) OwnLock }
@@ -93,7 +93,7 @@ fn write_all<F: Folder>(folder: &mut F, lock: &str, name: &str, bytes: &[u8]) ->
 }
 
 /// Gives the lock's file the name, and has the folder on the disk.
-fn put<F: Folder>(
+fn put<F: FileFolder>(
     folder: &mut F,
     lock: &str,
     name: &str,

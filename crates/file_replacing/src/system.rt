@@ -2,9 +2,9 @@
 ghost use Rattle.std.specs.Prelude.{◌≡◌, []};
 ghost use Rattle.file_replacing.specs.Note.{events_of};
 
-use crate::Folder;
+use crate::FileFolder;
 use crate::names::folder_of;
-use crate::record::Record;
+use crate::record::FileRecord;
 use crate::watch::{ReadWatch, Unwatched, WatchedFile};
 use std::alloc::Global;
 use std::fs::{self, File, Files, OpenOptions, TryLockError};
@@ -13,34 +13,34 @@ use std::os::unix::fs::MetadataExt;
 
 /// The files of the operating system's folders, one that is open, and the folder that is synced; and what is told of the reading.
 #[derive(Drop)]
-pub struct SystemFolder<'r, R: Files<File = File>, W: ReadWatch + Drop> {
+pub struct SystemFileFolder<'r, R: Files<File = File>, W: ReadWatch + Drop> {
     rt: &'r R,
     watch: W,
     file: Option<File>,
     folder: Option<File>,
-    calls: Record,
+    calls: FileRecord,
 }
 
-impl<'r, R: Files<File = File>> SystemFolder<'r, R, Unwatched> {
+impl<'r, R: Files<File = File>> SystemFileFolder<'r, R, Unwatched> {
     /// No file is open yet. Nothing is told of the reading.
-    pub fn new(rt: &'r R) -> SystemFolder<'r, R, Unwatched>
+    pub fn new(rt: &'r R) -> SystemFileFolder<'r, R, Unwatched>
         ensures { events_of result.calls.noted ≡ [] }
     {
-        SystemFolder::watched(rt, Unwatched)
+        SystemFileFolder::watched(rt, Unwatched)
     }
 }
 
-impl<'r, R: Files<File = File>, W: ReadWatch + Drop> SystemFolder<'r, R, W> {
+impl<'r, R: Files<File = File>, W: ReadWatch + Drop> SystemFileFolder<'r, R, W> {
     /// No file is open yet. This is told of the bytes of a file as they are read.
-    pub fn watched(rt: &'r R, watch: W) -> SystemFolder<'r, R, W>
+    pub fn watched(rt: &'r R, watch: W) -> SystemFileFolder<'r, R, W>
         ensures { events_of result.calls.noted ≡ [] }
     {
-        SystemFolder {
+        SystemFileFolder {
             rt,
             watch,
             file: None,
             folder: None,
-            calls: Record::new(),
+            calls: FileRecord::new(),
         }
     }
 }
@@ -120,7 +120,7 @@ fn read_whole<R: Files<File = File>, W: ReadWatch>(
     }
 }
 
-impl<'r, R: Files<File = File>, W: ReadWatch + Drop> Folder for SystemFolder<'r, R, W> {
+impl<'r, R: Files<File = File>, W: ReadWatch + Drop> FileFolder for SystemFileFolder<'r, R, W> {
     ghost history = { λ folder. events_of folder.calls.noted };
 
     fn open(&mut self, name: &str) -> io::Result<bool> {

@@ -9,7 +9,7 @@ use Rattle.file_home.proofs.under_lock.read_file.Goals as goal
 pub returns-in-Ok-Some-clause-read : goal.returns-in-Ok-Some-clause-read
 returns-in-Ok-Some-clause-read g c =
     let is : c.in-Ok-Some.field-0 ≡ Some c.in-Ok-Some.bytes = search rules in
-    c.in-Ok-Some.ensures ∙ ap (λ (o : Option (Vec ℕ)). Read c.name.result.now (Some (option_map (λ v. v.items) o)) ∷ g.F.Folder.history c.args.folder.now) is ∙ ap (λ (n : List ℕ). Read n (Some (Some c.in-Ok-Some.bytes.items)) ∷ g.F.Folder.history c.args.folder.now) c.name.ensures
+    c.in-Ok-Some.ensures ∙ ap (λ (o : Option (Vec ℕ)). Read c.name.result.now (Some (option_map (λ v. v.items) o)) ∷ g.F.FileFolder.history c.args.folder.now) is ∙ ap (λ (n : List ℕ). Read n (Some (Some c.in-Ok-Some.bytes.items)) ∷ g.F.FileFolder.history c.args.folder.now) c.name.ensures
 
 pub returns-in-Ok-None-clause-left : goal.returns-in-Ok-None-clause-left
 returns-in-Ok-None-clause-left g c = read_then_left _ _ _ _ _ _ c.in-Ok-None.ensures c.leave.ensures.locks
@@ -26,11 +26,11 @@ returns-in-Err-clause-own g c = read_then_gives _ _ _ _ _ _ c.in-Err.ensures c.l
 pub returns-in-Ok-None-clause-why : goal.returns-in-Ok-None-clause-why
 returns-in-Ok-None-clause-why g c =
     let is : c.in-Ok-None.field-0 ≡ None = search rules in
-    let read = c.in-Ok-None.ensures ∙ ap (λ (o : Option (Vec ℕ)). Read c.name.result.now (Some (option_map (λ v. v.items) o)) ∷ g.F.Folder.history c.args.folder.now) is ∙ ap (λ (n : List ℕ). Read n (Some None) ∷ g.F.Folder.history c.args.folder.now) c.name.ensures in
+    let read = c.in-Ok-None.ensures ∙ ap (λ (o : Option (Vec ℕ)). Read c.name.result.now (Some (option_map (λ v. v.items) o)) ∷ g.F.FileFolder.history c.args.folder.now) is ∙ ap (λ (n : List ℕ). Read n (Some None) ∷ g.F.FileFolder.history c.args.folder.now) c.name.ensures in
     inr (refl, inr (read_first _ _ _ _ (Some None) _ read c.leave.ensures.locks.1))
 
 pub returns-in-Err-clause-why : goal.returns-in-Err-clause-why
 returns-in-Err-clause-why g c =
-    let read = c.in-Err.ensures ∙ ap (λ (n : List ℕ). Read n None ∷ g.F.Folder.history c.args.folder.now) c.name.ensures in
+    let read = c.in-Err.ensures ∙ ap (λ (n : List ℕ). Read n None ∷ g.F.FileFolder.history c.args.folder.now) c.name.ensures in
     let first = read_first _ _ _ _ None _ read c.leave-in-Err.ensures.locks.1 in
     ⊎_elim (λ memory. inl memory) (λ fault. inr (fault, inl first)) c.refusal_of_read.ensures

@@ -13,13 +13,13 @@ use Rattle.file_replacing.proofs.keeping.keep.Goals as goal
 pub returns-clause-on_disk : goal.returns-clause-on_disk
 returns-clause-on_disk g c =
     let apart = longer_is_other _ _ _ _ c.args.place.now.longer c.lock.ensures c.name.ensures in
-    along (λ (l n : List ℕ). OnOk c.sync_both-outcome.result (StaysOnDisk l n (g.F.Folder.history c.args.folder.now) (g.F.Folder.history c.remove.new.self))) c.lock.result.now _ c.name.result.now _ c.lock.ensures c.name.ensures
+    along (λ (l n : List ℕ). OnOk c.sync_both-outcome.result (StaysOnDisk l n (g.F.FileFolder.history c.args.folder.now) (g.F.FileFolder.history c.remove.new.self))) c.lock.result.now _ c.name.result.now _ c.lock.ensures c.name.ensures
     (kept_ok c.lock.result.now c.name.result.now apart c.sync_both-outcome.result (is_ok c.remove.result) _ _ _ c.sync_both-outcome.ensures.synced c.remove.ensures)
 
 pub returns-clause-any_moment : goal.returns-clause-any_moment
 returns-clause-any_moment g c =
     let apart = longer_is_other _ _ _ _ c.args.place.now.longer c.lock.ensures c.name.ensures in
-    along (λ (l n : List ℕ). StaysOld l n (g.F.Folder.history c.args.folder.now) (g.F.Folder.history c.remove.new.self)) c.lock.result.now _ c.name.result.now _ c.lock.ensures c.name.ensures
+    along (λ (l n : List ℕ). StaysOld l n (g.F.FileFolder.history c.args.folder.now) (g.F.FileFolder.history c.remove.new.self)) c.lock.result.now _ c.name.result.now _ c.lock.ensures c.name.ensures
     (keeps_old c.lock.result.now c.name.result.now apart _ _ (more c.lock.result.now _ _ _ _ (c.sync_both-outcome.ensures.keeps c.lock.result.now) c.remove.ensures refl))
 
 pub returns-clause-keeps : goal.returns-clause-keeps
@@ -28,13 +28,13 @@ returns-clause-keeps g c = more _ (Removed c.lock.result.now (is_ok c.remove.res
 pub returns-clause-ours : goal.returns-clause-ours
 returns-clause-ours g c =
     let apart = longer_is_other _ _ _ _ c.args.place.now.longer c.lock.ensures c.name.ensures in
-    along (λ (l n : List ℕ). OnlyOurs l n (g.F.Folder.history c.args.folder.now) (g.F.Folder.history c.remove.new.self)) c.lock.result.now _ c.name.result.now _ c.lock.ensures c.name.ensures
+    along (λ (l n : List ℕ). OnlyOurs l n (g.F.FileFolder.history c.args.folder.now) (g.F.FileFolder.history c.remove.new.self)) c.lock.result.now _ c.name.result.now _ c.lock.ensures c.name.ensures
     (keeps_ours c.lock.result.now c.name.result.now apart _ _ (more c.lock.result.now _ _ _ _ (c.sync_both-outcome.ensures.keeps c.lock.result.now) c.remove.ensures refl))
 
 pub returns-clause-kept : goal.returns-clause-kept
 returns-clause-kept g c =
     let apart = longer_is_other _ _ _ _ c.args.place.now.longer c.lock.ensures c.name.ensures in
-    along (λ (l n : List ℕ). StaysKept l n (g.F.Folder.history c.args.folder.now) (g.F.Folder.history c.remove.new.self)) c.lock.result.now _ c.name.result.now _ c.lock.ensures c.name.ensures
+    along (λ (l n : List ℕ). StaysKept l n (g.F.FileFolder.history c.args.folder.now) (g.F.FileFolder.history c.remove.new.self)) c.lock.result.now _ c.name.result.now _ c.lock.ensures c.name.ensures
     (keeps_kept c.lock.result.now c.name.result.now apart _ _ (more c.lock.result.now _ _ _ _ (c.sync_both-outcome.ensures.keeps c.lock.result.now) c.remove.ensures refl))
 
 pub returns-clause-cause : goal.returns-clause-cause
@@ -42,5 +42,5 @@ returns-clause-cause g c = failed_then c.sync_both-outcome.result _ _ _ _ c.remo
 
 pub returns-clause-own : goal.returns-clause-own
 returns-clause-own g c =
-    along (λ (l n : List ℕ). GivesBack l (g.F.Folder.history c.args.folder.now) (g.F.Folder.history c.remove.new.self)) c.lock.result.now _ c.name.result.now _ c.lock.ensures c.name.ensures
+    along (λ (l n : List ℕ). GivesBack l (g.F.FileFolder.history c.args.folder.now) (g.F.FileFolder.history c.remove.new.self)) c.lock.result.now _ c.name.result.now _ c.lock.ensures c.name.ensures
     (removes_own c.lock.result.now _ _ _ _ (c.sync_both-outcome.ensures.own c.lock.result.now) c.remove.ensures)

@@ -27,7 +27,7 @@ returns-in-Err-settle-clause-no_lock g c = no_lock c.args.lock.now c.args.name.n
 pub returns-then-is_named-clause-err : goal.returns-then-is_named-clause-err
 returns-then-is_named-clause-err g c =
     let first = goes_on c.args.lock.now c.args.name.now c.args.bytes.now _ _ _ _ _ _ Unsure (starts _ _ _ _ (Ready c.args.bytes.now)) c.in-Err.ensures (renames c.args.lock.now c.args.name.now c.args.bytes.now false) in
-    let named = c.is_named.ensures ∙ ap (λ b. Compared c.args.lock.now b ∷ g.F.Folder.history c.rename.new.self) c.if-is_named.true in
+    let named = c.is_named.ensures ∙ ap (λ b. Compared c.args.lock.now b ∷ g.F.FileFolder.history c.rename.new.self) c.if-is_named.true in
     let second = goes_on c.args.lock.now c.args.name.now c.args.bytes.now _ _ _ _ _ _ Back first named (compares c.args.lock.now c.args.name.now c.args.bytes.now) in
     (GoneUnsure, goes_on c.args.lock.now c.args.name.now c.args.bytes.now _ _ _ _ _ _ _ second c.remove.ensures (removes c.args.lock.now c.args.name.now c.args.bytes.now (is_ok c.remove.result) Back), gone_unsure_in_turn)
 
@@ -38,7 +38,7 @@ returns-then-is_named-clause-cause g c =
 pub returns-else-is_named-clause-err : goal.returns-else-is_named-clause-err
 returns-else-is_named-clause-err g c =
     let first = goes_on c.args.lock.now c.args.name.now c.args.bytes.now _ _ _ _ _ _ Unsure (starts _ _ _ _ (Ready c.args.bytes.now)) c.in-Err.ensures (renames c.args.lock.now c.args.name.now c.args.bytes.now false) in
-    let named = c.is_named.ensures ∙ ap (λ b. Compared c.args.lock.now b ∷ g.F.Folder.history c.rename.new.self) c.if-is_named.false in
+    let named = c.is_named.ensures ∙ ap (λ b. Compared c.args.lock.now b ∷ g.F.FileFolder.history c.rename.new.self) c.if-is_named.false in
     (Unsure, goes_on c.args.lock.now c.args.name.now c.args.bytes.now _ _ _ _ _ _ Unsure first named refl, unsure_in_turn)
 
 pub returns-else-is_named-clause-cause : goal.returns-else-is_named-clause-cause

@@ -30,40 +30,40 @@ pub returns-clause-any_moment : goal.returns-clause-any_moment
 returns-clause-any_moment g c =
     let apart = longer_is_other _ _ _ _ c.args.place.now.longer c.lock.ensures c.name.ensures in
     let t = c.exchange.ensures.in_turn in
-    along (λ (l n : List ℕ). OldOrNew l n c.args.bytes.now (g.F.Folder.history c.args.folder.now) (g.F.Folder.history c.exchange.new.folder)) c.lock.result.now _ c.name.result.now _ c.lock.ensures c.name.ensures (old_or_new c.lock.result.now c.name.result.now c.args.bytes.now apart _ _ t.0 t.1 t.2)
+    along (λ (l n : List ℕ). OldOrNew l n c.args.bytes.now (g.F.FileFolder.history c.args.folder.now) (g.F.FileFolder.history c.exchange.new.folder)) c.lock.result.now _ c.name.result.now _ c.lock.ensures c.name.ensures (old_or_new c.lock.result.now c.name.result.now c.args.bytes.now apart _ _ t.0 t.1 t.2)
 
 pub returns-clause-synced : goal.returns-clause-synced
 returns-clause-synced g c =
     let apart = longer_is_other _ _ _ _ c.args.place.now.longer c.lock.ensures c.name.ensures in
-    along (λ (l n : List ℕ). IfOk c.exchange.result (λ how. how ≡ Synced → IsNew l n c.args.bytes.now (g.F.Folder.history c.args.folder.now) (g.F.Folder.history c.exchange.new.folder))) c.lock.result.now _ c.name.result.now _ c.lock.ensures c.name.ensures (stores c.lock.result.now c.name.result.now c.args.bytes.now apart c.exchange.result _ _ c.exchange.ensures.ok)
+    along (λ (l n : List ℕ). IfOk c.exchange.result (λ how. how ≡ Synced → IsNew l n c.args.bytes.now (g.F.FileFolder.history c.args.folder.now) (g.F.FileFolder.history c.exchange.new.folder))) c.lock.result.now _ c.name.result.now _ c.lock.ensures c.name.ensures (stores c.lock.result.now c.name.result.now c.args.bytes.now apart c.exchange.result _ _ c.exchange.ensures.ok)
 
 pub returns-clause-in_place : goal.returns-clause-in_place
 returns-clause-in_place g c =
     let apart = longer_is_other _ _ _ _ c.args.place.now.longer c.lock.ensures c.name.ensures in
-    along (λ (l n : List ℕ). OnOk c.exchange.result (IsInPlace l n c.args.bytes.now (g.F.Folder.history c.args.folder.now) (g.F.Folder.history c.exchange.new.folder))) c.lock.result.now _ c.name.result.now _ c.lock.ensures c.name.ensures (puts c.lock.result.now c.name.result.now c.args.bytes.now apart c.exchange.result _ _ c.exchange.ensures.ok)
+    along (λ (l n : List ℕ). OnOk c.exchange.result (IsInPlace l n c.args.bytes.now (g.F.FileFolder.history c.args.folder.now) (g.F.FileFolder.history c.exchange.new.folder))) c.lock.result.now _ c.name.result.now _ c.lock.ensures c.name.ensures (puts c.lock.result.now c.name.result.now c.args.bytes.now apart c.exchange.result _ _ c.exchange.ensures.ok)
 
 pub returns-clause-no_lock : goal.returns-clause-no_lock
 returns-clause-no_lock g c =
     let apart = longer_is_other _ _ _ _ c.args.place.now.longer c.lock.ensures c.name.ensures in
-    along (λ (l n : List ℕ). OnOk c.exchange.result (LeavesNoLock l (g.F.Folder.history c.args.folder.now) (g.F.Folder.history c.exchange.new.folder))) c.lock.result.now _ c.name.result.now _ c.lock.ensures c.name.ensures (c.exchange.ensures.no_lock)
+    along (λ (l n : List ℕ). OnOk c.exchange.result (LeavesNoLock l (g.F.FileFolder.history c.args.folder.now) (g.F.FileFolder.history c.exchange.new.folder))) c.lock.result.now _ c.name.result.now _ c.lock.ensures c.name.ensures (c.exchange.ensures.no_lock)
 
 pub returns-clause-unchanged : goal.returns-clause-unchanged
 returns-clause-unchanged g c =
     let apart = longer_is_other _ _ _ _ c.args.place.now.longer c.lock.ensures c.name.ensures in
-    along (λ (l n : List ℕ). IsErrOf c.exchange.result Unchanged → IsOld l n (g.F.Folder.history c.args.folder.now) (g.F.Folder.history c.exchange.new.folder)) c.lock.result.now _ c.name.result.now _ c.lock.ensures c.name.ensures (λ is. is_old c.lock.result.now c.name.result.now c.args.bytes.now apart _ _ (c.exchange.ensures.unchanged is))
+    along (λ (l n : List ℕ). IsErrOf c.exchange.result Unchanged → IsOld l n (g.F.FileFolder.history c.args.folder.now) (g.F.FileFolder.history c.exchange.new.folder)) c.lock.result.now _ c.name.result.now _ c.lock.ensures c.name.ensures (λ is. is_old c.lock.result.now c.name.result.now c.args.bytes.now apart _ _ (c.exchange.ensures.unchanged is))
 
 pub returns-clause-ours : goal.returns-clause-ours
 returns-clause-ours g c =
     let apart = longer_is_other _ _ _ _ c.args.place.now.longer c.lock.ensures c.name.ensures in
     let t = c.exchange.ensures.in_turn in
-    along (λ (l n : List ℕ). OnlyOurs l n (g.F.Folder.history c.args.folder.now) (g.F.Folder.history c.exchange.new.folder)) c.lock.result.now _ c.name.result.now _ c.lock.ensures c.name.ensures (only_ours c.lock.result.now c.name.result.now c.args.bytes.now _ _ t.0 t.1 t.2)
+    along (λ (l n : List ℕ). OnlyOurs l n (g.F.FileFolder.history c.args.folder.now) (g.F.FileFolder.history c.exchange.new.folder)) c.lock.result.now _ c.name.result.now _ c.lock.ensures c.name.ensures (only_ours c.lock.result.now c.name.result.now c.args.bytes.now _ _ t.0 t.1 t.2)
 
 pub returns-clause-kept : goal.returns-clause-kept
 returns-clause-kept g c =
     let apart = longer_is_other _ _ _ _ c.args.place.now.longer c.lock.ensures c.name.ensures in
     let t = c.exchange.ensures.in_turn in
-    along (λ (l n : List ℕ). StaysKept l n (g.F.Folder.history c.args.folder.now) (g.F.Folder.history c.exchange.new.folder)) c.lock.result.now _ c.name.result.now _ c.lock.ensures c.name.ensures (stays_kept c.lock.result.now c.name.result.now c.args.bytes.now _ _ t.0 t.1 t.2 apart)
+    along (λ (l n : List ℕ). StaysKept l n (g.F.FileFolder.history c.args.folder.now) (g.F.FileFolder.history c.exchange.new.folder)) c.lock.result.now _ c.name.result.now _ c.lock.ensures c.name.ensures (stays_kept c.lock.result.now c.name.result.now c.args.bytes.now _ _ t.0 t.1 t.2 apart)
 
 pub returns-clause-own : goal.returns-clause-own
 returns-clause-own g c =
-    along (λ (l n : List ℕ). GivesBack l (g.F.Folder.history c.args.folder.now) (g.F.Folder.history c.exchange.new.folder)) c.lock.result.now _ c.name.result.now _ c.lock.ensures c.name.ensures c.exchange.ensures.own
+    along (λ (l n : List ℕ). GivesBack l (g.F.FileFolder.history c.args.folder.now) (g.F.FileFolder.history c.exchange.new.folder)) c.lock.result.now _ c.name.result.now _ c.lock.ensures c.name.ensures c.exchange.ensures.own

@@ -6,7 +6,7 @@ use Rattle.file_replacing.proofs.replacing.write_all.Given as goal
 -- what was written so far
 abbrev pub invariant-loop-done : goal.invariant-loop-done
 invariant-loop-done g l =
-    let history = g.F.Folder.history in
+    let history = g.F.FileFolder.history in
     record {
       within : l.done ≤ length l.bytes;
       told : Goes l.lock l.name l.bytes (history l.fn.folder) (Filled []) (history l.folder) (Filled (take l.done l.bytes));

@@ -25,12 +25,12 @@ use denote.Triple.Entry.{on_entry}
 use denote.Triple.Spec.{Meets, triple_of}
 use denote.Triple.Table.{entered}
 use denote.Triple.Walked.{says, Stays, stay_ref, walk_of, AllGo, Goes-ref, Walks, ends_at, walked, walk_Meets}
-use Rattle.file_replacing.specs.declared.record.Record.{Record}
-use Rattle.file_replacing.specs.contracts.record.Record as T
-use Rattle.file_replacing.specs.contracts.record.Record.note.Key.{name as #it}
-use Rattle.file_replacing.specs.contracts.record.Record.note as it
-use Rattle.file_replacing.proofs.record.Record.note.Statement as stated
-use Rattle.file_replacing.proofs.record.Record.note.Code as code
+use Rattle.file_replacing.specs.declared.record.FileRecord.{FileRecord}
+use Rattle.file_replacing.specs.contracts.record.FileRecord as T
+use Rattle.file_replacing.specs.contracts.record.FileRecord.note.Key.{name as #it}
+use Rattle.file_replacing.specs.contracts.record.FileRecord.note as it
+use Rattle.file_replacing.proofs.record.FileRecord.note.Statement as stated
+use Rattle.file_replacing.proofs.record.FileRecord.note.Code as code
 use denote.Ref.{Bor}
 use denote.Builtin.{u8, u64}
 use denote.Exit.{yes}
@@ -39,18 +39,18 @@ use denote.Triple.Walked.{stay_none_slice, Goes-none_slice}
 use Rattle.std.proofs.Common.{◌<◌, ◌^◌, length}
 
 abbrev Arg : Type 0
-Arg = MutBor Record × (Bor (List ℕ) × (Bor (List ℕ) × (Bor (List ℕ) × Unit {0})))
+Arg = MutBor FileRecord × (Bor (List ℕ) × (Bor (List ℕ) × (Bor (List ℕ) × Unit {0})))
 
 abbrev stayed : Stays (it.ended).signature.params (it.ended).kept
 stayed = (stay_ref (0 ∷ []) tt (plain (λ _. T.the_row)), (stay_none_slice (1 ∷ []) tt (plain (λ _. u64)) yes, (stay_none_slice (2 ∷ []) tt (plain (λ _. u8)) yes, (stay_none_slice (3 ∷ []) tt (plain (λ _. u8)) yes, tt))))
 
-module _ {M : Type 1} {𝓤 : Ura M} (𝓛 : Logic 𝓤) (at_mem : Memory → SProp 𝓤) (run : Routine → Fun 𝓤) (κ κ' κ'' κ4 : Lft) (q q' q'' q4 : Share) (b o : ℕ) (γ : GName) (h : Record) (k s z : Bor (List ℕ)) where
+module _ {M : Type 1} {𝓤 : Ura M} (𝓛 : Logic 𝓤) (at_mem : Memory → SProp 𝓤) (run : Routine → Fun 𝓤) (κ κ' κ'' κ4 : Lft) (q q' q'' q4 : Share) (b o : ℕ) (γ : GName) (h : FileRecord) (k s z : Bor (List ℕ)) where
   open 𝓛 use {H, A}
 
   abbrev x : Arg
   x = (record { ref_ptr = (b, o); ghost_name = γ; now = h }, (k, (s, (z, tt))))
 
-  abbrev h' : Record
+  abbrev h' : FileRecord
   h' = record { marker = h.marker; noted = (k.now, s.now, z.now) ∷ h.noted }
 
   abbrev at : List Val × (List Val × (List Val × (List Val × Unit {0})))

@@ -21,17 +21,17 @@ use denote.Triple.Entry.{on_entry}
 use denote.Triple.Spec.{Meets, triple_of}
 use denote.Triple.Table.{entered}
 use denote.Triple.Walked.{says, ends_at, walked, walk_Meets}
-use Rattle.file_replacing.specs.declared.record.Record.{Record}
-use Rattle.file_replacing.specs.contracts.record.Record as T
-use Rattle.file_replacing.specs.contracts.record.Record.new.Key.{name as #it}
-use Rattle.file_replacing.specs.contracts.record.Record.new as it
-use Rattle.file_replacing.proofs.record.Record.new.Statement as stated
-use Rattle.file_replacing.proofs.record.Record.new.Code as code
+use Rattle.file_replacing.specs.declared.record.FileRecord.{FileRecord}
+use Rattle.file_replacing.specs.contracts.record.FileRecord as T
+use Rattle.file_replacing.specs.contracts.record.FileRecord.new.Key.{name as #it}
+use Rattle.file_replacing.specs.contracts.record.FileRecord.new as it
+use Rattle.file_replacing.proofs.record.FileRecord.new.Statement as stated
+use Rattle.file_replacing.proofs.record.FileRecord.new.Code as code
 
 abbrev v : Val
 v = vstruct (vcons (vstruct vnil) vnil)
 
-abbrev r : Record
+abbrev r : FileRecord
 r = record { marker = record {}; noted = [] }
 
 meets : {M : Type 1} {𝓤 : Ura M} (𝓛 : Logic 𝓤) → (at_mem : Memory → SProp 𝓤) (run : Routine → Fun 𝓤) (𝓣 : Tables 𝓤 𝓛.H)
