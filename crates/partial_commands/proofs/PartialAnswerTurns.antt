@@ -16,26 +16,31 @@ use Rattle.partial_answers.specs.PartialAnswer.{finish}
 use Rattle.partial_answers.specs.declared.partial_answer.PartialAnswer.{PartialAnswer}
 use Rattle.column_file.specs.Input.{Judges}
 use Rattle.partial_file.specs.PartialAnswerReading.{form_of, is_refusal_of_partial_answer, partial_answer_read}
+use Rattle.partial_answers.specs.Shape.{IsQueryOf}
 use Rattle.query_parser.specs.Descent.{query_of}
+use Rattle.query_parser.specs.Resolve.{resolved}
 use Rattle.partial_commands.specs.PartialAnswerTurns.{CountsBothErrors, IsAnswerText, IsUnfinished, WritesAnswer}
 use Rattle.partial_commands.specs.StorePartialAnswer.{finished}
 use Rattle.partial_commands.specs.declared.partial_answer_error.PartialAnswerError.{PartialAnswerError}
 use Rattle.partial_commands.specs.declared.partial_answer_error.PartialAnswerError.TheVariants.{Refused, Fault}
 
-ok_one : {X : Type 0} (x y : X) → ◌≡◌ {A = Result X Refusal} (Ok x) (Ok y) → x ≡ y
-ok_one x y e = cc
-
-answers_from : (x : Result QueryShape Refusal) (p : PartialAnswer) (found wanted : AnswerParts) → query_of (string_bytes p.text) ≡ x
+-- a text that is a query has an answer
+finished_from : (x : Result QueryShape Refusal) (p : PartialAnswer) (found : AnswerParts) → query_of (string_bytes p.text) ≡ x → (x >>= λ query. resolved p.schema query) ≡ Ok tt
     → ((query : QueryShape) → query_of (string_bytes p.text) ≡ Ok query → found ≡ finish p.schema query (partial_answer_in p.groups))
-    → (x >>= λ query. Ok (finish p.schema query (partial_answer_in p.groups))) ≡ Ok wanted → found ≡ wanted
-answers_from (Ok query) p found wanted asked is made = is query asked ∙ ok_one (finish p.schema query (partial_answer_in p.groups)) wanted made
-answers_from (Err e) p found wanted asked is made = absurd cc
+    → (x >>= λ query. Ok (finish p.schema query (partial_answer_in p.groups))) ≡ Ok found
+finished_from (Ok query) p found asked names is = ap Ok (sym (is query asked))
+finished_from (Err e) p found asked names is = absurd cc
 
 -- what a partial answer finishes to is its answer
-pub answer_is : (format : Format) (p : PartialAnswer) (found : AnswerParts) (text : List ℕ)
+pub answer_is : (format : Format) (p : PartialAnswer) (found : AnswerParts) (text : List ℕ) → IsQueryOf p.schema (string_bytes p.text)
     → ((query : QueryShape) → query_of (string_bytes p.text) ≡ Ok query → found ≡ finish p.schema query (partial_answer_in p.groups))
     → text ≡ formatted format found → IsAnswerText format p text
-answer_is format p found text is written = λ wanted made. written ∙ ap (formatted format) (answers_from (query_of (string_bytes p.text)) p found wanted refl is made)
+answer_is format p found text asked is written = record {
+  asked = asked;
+  answer = found;
+  finishes = finished_from (query_of (string_bytes p.text)) p found refl asked is;
+  written = written;
+}
 
 memory_judged : (e : Refusal) (input : Option (List ℕ)) → e ≡ Memory → Judges {X = PartialAnswer} form_of (Err e) input partial_answer_read
 memory_judged e None lacks = tt

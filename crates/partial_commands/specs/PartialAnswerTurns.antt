@@ -1,6 +1,7 @@
 -- What the calls say that read a partial answer: one that combines it with those before it, and one that writes its answer.
 use Rattle.std.specs.Prelude.{◌≡◌, ◌⊎◌, ℕ, List, Option, Some, None, Result, Ok, Err}
 use Rattle.std.specs.Io.KnownBytes.{Appends}
+use Rattle.std.specs.String.{string_bytes}
 use Rattle.table_model.specs.Answer.{AnswerParts}
 use Rattle.table_model.specs.Faults.{AppendsFront, CountsBoth, CountsReads}
 use Rattle.table_model.specs.declared.refusal.Refusal.{Refusal}
@@ -8,7 +9,7 @@ use Rattle.table_model.specs.declared.refusal.Refusal.TheVariants.{Memory, Write
 use Rattle.answer_formats.specs.Formats.{formatted}
 use Rattle.answer_formats.specs.declared.format.Format.{Format}
 use Rattle.partial_answers.specs.Combining.{AreCombined, IsRefused}
-use Rattle.partial_answers.specs.Shape.{RefusesFinishing}
+use Rattle.partial_answers.specs.Shape.{IsQueryOf, RefusesFinishing}
 use Rattle.partial_answers.specs.declared.fault.PartialAnswerFault.{PartialAnswerFault}
 use Rattle.partial_answers.specs.declared.partial_answer.PartialAnswer.{PartialAnswer}
 use Rattle.column_file.specs.Input.{Judges}
@@ -45,9 +46,12 @@ CountsErrors many (Fault fault) before after = after ≡ before
 
 -- ---- the answer of a partial answer
 
--- a text is that of the answer that a partial answer finishes to, if the partial answer's text is a query
-abbrev pub IsAnswerText : Format → PartialAnswer → List ℕ → Type 0
-IsAnswerText format p text = (answer : AnswerParts) → finished (meaning_of p) ≡ Ok answer → text ≡ formatted format answer
+-- The text of a partial answer is a query of its table, and a text is that of the answer to which the partial answer finishes.
+pub record IsAnswerText (format : Format) (p : PartialAnswer) (text : List ℕ) : Type 0 where
+  pub asked : IsQueryOf p.schema (string_bytes p.text)
+  pub answer : AnswerParts
+  pub finishes : finished (meaning_of p) ≡ Ok answer
+  pub written : text ≡ formatted format answer
 
 -- why a partial answer isn't finished: it can't be, or memory ran out
 abbrev pub IsUnfinished : PartialAnswerError → PartialAnswer → Type 0

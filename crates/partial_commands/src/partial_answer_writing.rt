@@ -7,6 +7,7 @@ ghost use Rattle.partial_commands.specs.StorePartialAnswer.{query_partial_answer
 
 use crate::store_partial_answer::partial_answer_of_store;
 use partial_file::write_partial_answer;
+use query_eval::HashKey;
 use replica_store::Store;
 use std::alloc::Global;
 use std::io::Write;
@@ -19,6 +20,7 @@ use table_model::{Counted, Refusal};
 pub fn write_partial_answer_of_store<W: Write>(
     alloc: Global,
     store: &Store,
+    hash_key: HashKey,
     sql: &str,
     writer: &mut Counted<W>,
 ) -> Result<(), Refusal>
@@ -27,6 +29,6 @@ pub fn write_partial_answer_of_store<W: Write>(
     ensures kept { OnOk result (writer.new.1 ≡ writer.old.1) }
     ensures fault { IfErr result (λ e. CountsWrites e writer.old.1 writer.new.1) }
 {
-    let partial = partial_answer_of_store(alloc, store, sql)?;
+    let partial = partial_answer_of_store(alloc, store, hash_key, sql)?;
     write_partial_answer(alloc, &partial, writer)
 }

@@ -11,7 +11,7 @@ ghost use Rattle.partial_commands.specs.StorePartialAnswer.{meaning_of, meaning_
 
 use crate::strays::stray_names;
 use partial_answers::{Kept, PartialAnswer, partial_answer_groups};
-use query_eval::Key;
+use query_eval::{HashKey, Key};
 use query_parser::{parse, resolve};
 use replica_store::Store;
 use std::alloc::Global;
@@ -39,7 +39,8 @@ fn partial_answer_with(
     Ok(PartialAnswer::new(schema, text, held, strays, groups))
 }
 
-/// What a store gives to the answer of a query, given as a text: the partial answer of its rows that aren't deleted.
+/// What a store gives to the answer of a query, given as a text: the partial answer of its rows that aren't deleted. Groups are found
+/// by hashes of a key.
 ///
 /// The refusals are those of the query, with the same place: `Syntax`, `NumberTooLarge` and `TooDeep`, the one whose token comes
 /// first; `NoSuchTable`; `NoSuchColumn`; `NotGrouped`; `Memory`. The text is read as it is taken apart, so `Memory` can come in
@@ -47,6 +48,7 @@ fn partial_answer_with(
 pub fn partial_answer_of_store(
     alloc: Global,
     store: &Store,
+    hash_key: HashKey,
     sql: &str,
 ) -> Result<PartialAnswer, Refusal>
     ensures read { Reads meaning_of result (query_partial_answer sql.now store.now.replica.schema store.now.replica.state) }
@@ -55,6 +57,7 @@ pub fn partial_answer_of_store(
 {
     let query = parse(alloc, sql)?;
     resolve(&query, store.schema())?;
-    let groups = partial_answer_groups(alloc, &mut StoreView::new(store), &query)?;
+    let mut view = StoreView::with_hash_key(store, hash_key);
+    let groups = partial_answer_groups(alloc, &mut view, &query)?;
     partial_answer_with(alloc, store, sql, groups)
 }

@@ -27,3 +27,4 @@ pub mod CodeSums
 pub mod Keys
 pub mod Bits
 pub mod Forms
+pub mod HashKey

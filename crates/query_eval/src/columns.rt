@@ -2,6 +2,7 @@
 ghost use Rattle.std.specs.Prelude.{◌≡◌};
 ghost use Rattle.query_eval.specs.Vector.{IsWithin};
 
+use crate::hash_key::HashKey;
 use table_model::{BatchName, Op, Schema};
 use transpose_order::Mask;
 
@@ -169,6 +170,9 @@ pub trait Columns {
         ensures few { IfSome result (λ count. count ≤ most) }
         ensures read { IfSome result (λ _. IsCounted (seen self.old) (seen self.new) 1) }
         ensures none { result ≡ None → (seen self.new ≡ seen self.old) × ((codes.new ≡ codes.old) × (keys.new ≡ keys.old)) };
+
+    /// The key of the hashes by which groups and distinct values are found. It says nothing of a value.
+    fn hash_key(&self) -> HashKey;
 
     /// How many passes over vectors were made, or the greatest number if there were more.
     fn passes(&self) -> u128

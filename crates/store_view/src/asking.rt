@@ -7,23 +7,27 @@ ghost use Rattle.table_model.specs.Reading.{Reads};
 ghost use Rattle.store_view.specs.Asked.{query_answer, is_refusal_of_query, condition_names, is_refusal_of_condition};
 
 use crate::view::StoreView;
-use query_eval::{answer, matching};
+use query_eval::{HashKey, answer, matching};
 use query_parser::{parse, parse_condition, resolve, resolve_condition};
 use replica_store::Store;
 use std::alloc::Global;
 use table_model::{Answer, Refusal, RowName};
 
-/// The answer to a query, given as a text, over the rows of a store that aren't deleted.
+/// The answer to a query, given as a text, over the rows of a store that aren't deleted. Groups are found by hashes of a key.
 ///
 /// The refusals are, in this order: `Syntax`, `NumberTooLarge` and `TooDeep`, the one whose token comes first; `NoSuchTable`;
 /// `NoSuchColumn`; `NotGrouped`; `Memory`. The text is read as it is taken apart, so `Memory` may come in place of any.
-pub fn ask(alloc: Global, store: &Store, text: &str) -> Result<Answer, Refusal>
+pub fn ask(alloc: Global, store: &Store, hash_key: HashKey, text: &str) -> Result<Answer, Refusal>
     ensures read { Reads (λ answer. answer) result (query_answer text.now store.now.replica.schema store.now.replica.state) }
     ensures refused { IfErr result (λ e. IsTrue (is_refusal_of_query e)) }
 {
     let query = parse(alloc, text)?;
     resolve(&query, store.schema())?;
-    let answer = answer(alloc, &mut StoreView::new(store), &query)?;
+    let answer = answer(
+        alloc,
+        &mut StoreView::with_hash_key(store, hash_key),
+        &query,
+    )?;
     Ok(answer)
 }
 

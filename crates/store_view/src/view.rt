@@ -15,7 +15,7 @@ use fused_kernels::{
     Meter, compare_vector, compare_vector_range, compare_vectors, count, decode_vector,
     vector_codes_into, vector_extreme, vector_has_few_codes, vector_runs_into, vector_sum,
 };
-use query_eval::{Columns, VectorId};
+use query_eval::{Columns, HashKey, VectorId};
 use replica_store::Store;
 use segment_core::CodedVector;
 use std::marker::Model;
@@ -27,6 +27,7 @@ use transpose_order::{Mask, VECTOR_ROWS};
 pub struct StoreView<'a> {
     store: &'a Store,
     meter: Meter,
+    hash_key: HashKey,
 }
 
 impl<'a> Model for StoreView<'a> {
@@ -40,13 +41,22 @@ impl<'a> Model for StoreView<'a> {
 }
 
 impl<'a> StoreView<'a> {
-    /// The view of a store, with no pass made yet.
+    /// The view of a store whose rows are trusted, with no pass made yet. Its hashes go by the fixed key.
     pub fn new(store: &'a Store) -> Self
+        ensures { result ≡ record { table = store.now.replica.schema; state = store.now.replica.state; passes = 0 } }
+    {
+        StoreView::with_hash_key(store, HashKey::fixed())
+    }
+
+    /// The view of a store by hashes of a key, with no pass made yet. No answer depends on the key, but whoever chooses rows and
+    /// knows it can make queries over them slow.
+    pub fn with_hash_key(store: &'a Store, hash_key: HashKey) -> Self
         ensures { result ≡ record { table = store.now.replica.schema; state = store.now.replica.state; passes = 0 } }
     {
         StoreView {
             store,
             meter: Meter::new(),
+            hash_key,
         }
     }
 }
@@ -202,6 +212,10 @@ impl<'a> Columns for StoreView<'a> {
         let count = vector_codes_into(found, codes, keys, &mut self.meter)?;
         put_past(codes, found.rows(), count as u16);
         Some(count)
+    }
+
+    fn hash_key(&self) -> HashKey {
+        self.hash_key
     }
 
     fn passes(&self) -> u128 {

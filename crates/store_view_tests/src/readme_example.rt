@@ -1,5 +1,5 @@
 //! The example of store_view's README, which has the same text.
-use query_eval::text;
+use query_eval::{HashKey, text};
 use replica_store::Store;
 use std::alloc::Global;
 use std::test::Fail;
@@ -22,6 +22,7 @@ fn ask_a_store(alloc: Global) -> Result<(), Fail> {
     let answer = ask(
         alloc,
         &store,
+        HashKey::fixed(),
         "SELECT SITE,SUM(HITS) FROM VISITS GROUP BY SITE",
     )?;
     let lines = text(alloc, &answer)?;

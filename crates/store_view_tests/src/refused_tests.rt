@@ -1,7 +1,7 @@
 //! Queries over a store, each with a growth refused. A test's own growths are counted from 1: with the Nth refused, a test fails
 //! by an `AllocError` or `Memory` of its set-up, or, if it was a growth of the call that it is of, as `growth_refused` says;
 //! with none refused it passes. The command `tests/refused-memory` refuses each in turn and counts those texts.
-use query_eval::{answer, matching, text};
+use query_eval::{HashKey, answer, matching, text};
 use query_parser::{parse, parse_condition, resolve};
 use replica_store::Store;
 use std::alloc::{AllocError, Global};
@@ -59,7 +59,7 @@ fn is_answer(alloc: Global, found: &Answer) -> Result<bool, AllocError> {
 
 /// Whether the query has its answer over a store.
 fn is_answered(alloc: Global, store: &Store) -> Result<bool, Refusal> {
-    let found = ask(alloc, store, QUERY)?;
+    let found = ask(alloc, store, HashKey::fixed(), QUERY)?;
     Ok(is_answer(alloc, &found)?)
 }
 
@@ -85,7 +85,7 @@ fn a_refused_answer_leaves_the_store(rt: HostRuntime) -> Result<(), Fail> {
 fn a_refused_question_leaves_the_store(rt: HostRuntime) -> Result<(), Fail> {
     let alloc = rt.alloc();
     let store = filled_store(alloc)?;
-    match ask(alloc, &store, QUERY) {
+    match ask(alloc, &store, HashKey::fixed(), QUERY) {
         Ok(_) => Ok(()),
         Err(fault) => {
             let is_same = is_answered(alloc, &store)?;
@@ -97,7 +97,7 @@ fn a_refused_question_leaves_the_store(rt: HostRuntime) -> Result<(), Fail> {
 /// The query's answer over the rows of these tests.
 fn answered(alloc: Global) -> Result<Answer, Refusal> {
     let store = filled_store(alloc)?;
-    ask(alloc, &store, QUERY)
+    ask(alloc, &store, HashKey::fixed(), QUERY)
 }
 
 #[test]

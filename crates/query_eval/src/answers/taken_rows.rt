@@ -12,6 +12,7 @@ ghost use Rattle.query_eval.specs.Vector.{IsThere, batch_count, vector_of};
 use crate::columns::{Columns, VectorId};
 use crate::filter::{KeptVector, has_rows, kept_mask};
 use crate::grouping::Room;
+use crate::hash_key::HashKey;
 use crate::tallies::{
     FinishedGroup, Groups, Plan, Tally, group_vector, grouped_table, no_tallies, tally_vector,
     whole_group,
@@ -30,13 +31,13 @@ pub enum Taken {
 
 impl Taken {
     /// What is known of no rows.
-    fn none(alloc: Global, plan: &Plan) -> Result<Taken, AllocError>
+    fn none(alloc: Global, hash_key: HashKey, plan: &Plan) -> Result<Taken, AllocError>
         ensures { IfOk result (λ taken. AreTaken plan.now [] taken) }
     {
         if plan.grouping().is_empty() {
-            Ok(Taken::Whole(no_tallies(alloc, plan.aggregates())?))
+            Ok(Taken::Whole(no_tallies(alloc, hash_key, plan.aggregates())?))
         } else {
-            Ok(Taken::Grouped(Groups::none(alloc, plan.aggregates())?))
+            Ok(Taken::Grouped(Groups::none(alloc, hash_key, plan.aggregates())?))
         }
     }
 
@@ -141,7 +142,7 @@ pub fn take_rows<C: Columns>(
     ensures same { IsSame (C.seen columns.old) (C.seen columns.new) }
     ensures passes { IfOk result (λ _. (C.seen columns.new).passes ≤ (C.seen columns.old).passes + all_mentions condition.now plan.now * live_vectors (C.seen columns.old).state) }
 {
-    let mut taken = Taken::none(alloc, plan)?;
+    let mut taken = Taken::none(alloc, columns.hash_key(), plan)?;
     let mut room = Room::new(alloc);
     for batch in 0..columns.batches() {
         take_batch(

@@ -11,6 +11,7 @@ ghost use Rattle.table_model.specs.State.{Cells, same_cells};
 ghost use Rattle.query_eval.specs.Entries.{place_in};
 
 use crate::grouping::key::Key;
+use crate::hash_key::HashKey;
 use std::alloc::{AllocError, Global};
 use std::collections::HashMap;
 use std::marker::Model;
@@ -18,7 +19,7 @@ use std::marker::Model;
 /// Keys with the places of their groups, each key once. Contracts see it as a list of these pairs, in any order.
 #[derive(Drop)]
 pub struct Index {
-    places: HashMap<Key, usize>,
+    places: HashMap<Key, usize, HashKey>,
 }
 
 impl Model for Index {
@@ -30,12 +31,12 @@ impl Model for Index {
 }
 
 impl Index {
-    /// No keys. It takes no memory yet.
-    pub fn new(alloc: Global) -> Index
+    /// No keys, which a hash of this key will find. It takes no memory yet.
+    pub fn new(alloc: Global, hash_key: HashKey) -> Index
         ensures { result ≡ [] }
     {
         Index {
-            places: HashMap::new(alloc),
+            places: HashMap::with_hasher(alloc, hash_key),
         }
     }
 

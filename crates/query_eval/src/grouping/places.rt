@@ -9,6 +9,7 @@ ghost use Rattle.query_eval.specs.Places.{IsIndex, IsTakenIn};
 
 use crate::grouping::index::Index;
 use crate::grouping::key::Key;
+use crate::hash_key::HashKey;
 use std::alloc::{AllocError, Global};
 
 /// How many values are remembered with the places of their groups.
@@ -48,13 +49,13 @@ fn remember(recent: &mut Vec<Option<Recent>>, slot: usize, entry: Recent)
 }
 
 impl Places {
-    /// No places.
-    pub fn new(alloc: Global) -> Result<Places, AllocError>
+    /// No places, which hashes of this key will find.
+    pub fn new(alloc: Global, hash_key: HashKey) -> Result<Places, AllocError>
         ensures index { IfOk result (λ places. IsIndex places) }
         ensures empty { IfOk result (λ places. places.index ≡ []) }
     {
         Ok(Places {
-            index: Index::new(alloc),
+            index: Index::new(alloc, hash_key),
             recent: vec![in alloc; None; REMEMBERED]?,
             null: None,
         })

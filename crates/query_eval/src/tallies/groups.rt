@@ -9,6 +9,7 @@ ghost use Rattle.query_eval.specs.Vector.{IsThere, vector_of};
 use crate::columns::Columns;
 use crate::filter::KeptVector;
 use crate::grouping::{Places, Room, place_rows};
+use crate::hash_key::HashKey;
 use crate::tallies::aggregate::Aggregate;
 use crate::tallies::plan::Plan;
 use crate::tallies::split_tallies::add_columns;
@@ -35,11 +36,15 @@ fn no_tallies(alloc: Global, aggregates: &[Aggregate]) -> Result<Vec<Vec<Tally>>
 
 impl Groups {
     /// No groups.
-    pub(crate) fn none(alloc: Global, aggregates: &[Aggregate]) -> Result<Groups, AllocError>
+    pub(crate) fn none(
+        alloc: Global,
+        hash_key: HashKey,
+        aggregates: &[Aggregate],
+    ) -> Result<Groups, AllocError>
         ensures index { IfOk result (λ groups. IsIndex groups.places) }
         ensures groups { IfOk result (λ groups. (by : List ℕ) → AreGroups by aggregates.now [] groups.places.index groups.tallies.items) }
     {
-        let places = Places::new(alloc)?;
+        let places = Places::new(alloc, hash_key)?;
         let tallies = no_tallies(alloc, aggregates)?;
         Ok(Groups { places, tallies })
     }

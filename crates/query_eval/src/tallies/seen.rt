@@ -5,6 +5,7 @@ ghost use Rattle.std.specs.HashSet.{contains};
 ghost use Rattle.std.specs.List.{list_any, IsDistinct};
 ghost use Rattle.std.specs.Ordering.{int_eq};
 
+use crate::hash_key::HashKey;
 use smallvec::SmallVec;
 use std::alloc::{AllocError, Global};
 use std::collections::HashSet;
@@ -17,13 +18,14 @@ const MOST_IN_LIST: usize = 16;
 #[derive(Drop)]
 pub enum Content {
     List(SmallVec<i64, 2>),
-    Set(Box<HashSet<i64>>),
+    Set(Box<HashSet<i64, HashKey>>),
 }
 
 /// The values of a group, each once. Contracts see them as a list, in any order.
 #[derive(Drop)]
 pub struct Seen {
     content: Content,
+    hash_key: HashKey,
 }
 
 impl Model for Seen {
@@ -38,10 +40,15 @@ impl Model for Seen {
 }
 
 /// The set of some values and one more.
-fn set_of(alloc: Global, values: &[i64], more: i64) -> Result<HashSet<i64>, AllocError>
+fn set_of(
+    alloc: Global,
+    hash_key: HashKey,
+    values: &[i64],
+    more: i64,
+) -> Result<HashSet<i64, HashKey>, AllocError>
     ensures { IfOk result (λ set. (z : ℤ) → contains int_eq set z ≡ cond (int_eq more z) true (list_any (int_eq z) values.now)) }
 {
-    let mut set = HashSet::new(alloc);
+    let mut set = HashSet::with_hasher(alloc, hash_key);
     for value in values {
         set.insert(*value)?;
     }
@@ -52,8 +59,9 @@ fn set_of(alloc: Global, values: &[i64], more: i64) -> Result<HashSet<i64>, Allo
 /// Adds a value to a list that does not have it. If the list has its most values already, it stays as it is, and all go into a set.
 fn add_to_list(
     list: &mut SmallVec<i64, 2>,
+    hash_key: HashKey,
     value: i64,
-) -> Result<Option<Box<HashSet<i64>>>, AllocError>
+) -> Result<Option<Box<HashSet<i64, HashKey>>>, AllocError>
     ensures list { IfOk result (λ grown. grown ≡ None → (z : ℤ) → list_any (int_eq z) list.new.items ≡ cond (int_eq value z) true (list_any (int_eq z) list.old.items)) }
     ensures apart { IsDistinct int_eq list.old.items → IsDistinct int_eq list.new.items }
     ensures set { IfOk result (λ grown. IfSome grown (λ set. (z : ℤ) → contains int_eq set.value z ≡ cond (int_eq value z) true (list_any (int_eq z) list.old.items))) }
@@ -66,17 +74,18 @@ fn add_to_list(
         return Ok(None);
     }
     let alloc = *list.allocator();
-    let set = set_of(alloc, list.as_slice(), value)?;
+    let set = set_of(alloc, hash_key, list.as_slice(), value)?;
     Ok(Some(Box::new(alloc, set)?))
 }
 
 impl Seen {
-    /// No values. It takes no memory.
-    pub fn new(alloc: Global) -> Seen
+    /// No values. It takes no memory. If there are many, hashes of this key will find them.
+    pub fn new(alloc: Global, hash_key: HashKey) -> Seen
         ensures { result ≡ [] }
     {
         Seen {
             content: Content::List(SmallVec::new(alloc)),
+            hash_key,
         }
     }
 
@@ -85,7 +94,7 @@ impl Seen {
         ensures { OnOk result ((z : ℤ) → list_any (int_eq z) self.new ≡ cond (int_eq value z) true (list_any (int_eq z) self.old)) }
     {
         let grown = match &mut self.content {
-            Content::List(list) => add_to_list(list, value)?,
+            Content::List(list) => add_to_list(list, self.hash_key, value)?,
             Content::Set(set) => {
                 set.insert(value)?;
                 None

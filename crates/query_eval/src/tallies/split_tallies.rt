@@ -14,6 +14,7 @@ ghost use Rattle.query_eval.specs.declared.tallies.tally.TallyKind.TheVariants a
 use crate::columns::{Columns, state_is_within_limits};
 use crate::filter::KeptVector;
 use crate::grouping::Split;
+use crate::hash_key::HashKey;
 use crate::tallies::aggregate::Aggregate;
 use crate::tallies::code_tallies::sum_codes;
 use crate::tallies::masked_folds::are_short;
@@ -54,6 +55,7 @@ pub(crate) fn aggregate_kind(aggregate: Aggregate) -> TallyKind
 /// Adds the tallies of groups that came: of no rows yet.
 fn add_groups(
     alloc: Global,
+    hash_key: HashKey,
     tallies: &mut Vec<Tally>,
     aggregate: Aggregate,
     count: usize,
@@ -64,7 +66,7 @@ fn add_groups(
 {
     let missing = count.saturating_sub(tallies.len());
     for _ in 0..missing {
-        let tally = Tally::new(alloc, aggregate_kind(aggregate))?;
+        let tally = Tally::new(alloc, hash_key, aggregate_kind(aggregate))?;
         tallies.push(tally)?;
     }
     Ok(())
@@ -207,7 +209,7 @@ fn add_column<C: Columns>(
     ensures taken { OnOk result (IsTaken aggregate (vector_of (C.seen columns.old).state kept.now.id) split.now count tallies.old.items tallies.new.items) }
     ensures read { IsRead (C.seen columns.old) (C.seen columns.new) (aggregate_mentions aggregate) }
 {
-    add_groups(alloc, tallies, aggregate, count)?;
+    add_groups(alloc, columns.hash_key(), tallies, aggregate, count)?;
     match aggregate {
         Aggregate::Rows => count_split(tallies, split, &Mask::none()),
         Aggregate::Folded {

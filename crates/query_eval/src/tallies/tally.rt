@@ -15,6 +15,7 @@ ghost use Rattle.table_model.specs.declared.extreme.Extreme.{Extreme as AnExtrem
 ghost use Rattle.query_eval.specs.declared.tallies.tally.TallyKind.TheVariants as kinds;
 ghost use Rattle.query_eval.specs.TallyKinds.{fold_kind};
 
+use crate::hash_key::HashKey;
 use crate::tallies::distinct::add_values;
 use crate::tallies::field_values::{sum_field, values_field, whole_field};
 use crate::tallies::masked_folds::{count_at, extreme_at, sum_at};
@@ -158,8 +159,8 @@ fn is_reached(extreme: Extreme, value: Option<i64>, bound: i64) -> bool
 }
 
 impl Tally {
-    /// The set function of no values. Only DISTINCT takes memory, for its values.
-    pub fn new(alloc: Global, kind: TallyKind) -> Result<Tally, AllocError>
+    /// The set function of no values. Only DISTINCT takes memory, for its values, which hashes of this key will find.
+    pub fn new(alloc: Global, hash_key: HashKey, kind: TallyKind) -> Result<Tally, AllocError>
         ensures values { IfOk result (λ tally. IsTally [] tally) }
         ensures kind { IfOk result (λ tally. kind_of tally ≡ kind) }
     {
@@ -171,7 +172,7 @@ impl Tally {
             })),
             TallyKind::Extreme(extreme) => Ok(Tally::Extreme(extreme, None)),
             TallyKind::Distinct => {
-                let seen = Box::new(alloc, Seen::new(alloc))?;
+                let seen = Box::new(alloc, Seen::new(alloc, hash_key))?;
                 Ok(Tally::Distinct(seen))
             }
         }

@@ -14,6 +14,7 @@ ghost use Rattle.query_eval.specs.Vector.{IsThere, looked_at, vector_of};
 use crate::columns::{Columns, state_is_within_limits};
 use crate::filter::KeptVector;
 use crate::grouping::Key;
+use crate::hash_key::HashKey;
 use crate::tallies::aggregate::Aggregate;
 use crate::tallies::finished_group::FinishedGroup;
 use crate::tallies::grouped_table::value_of;
@@ -23,12 +24,16 @@ use std::alloc::{AllocError, Global};
 use table_model::{Extreme, Field};
 
 /// A tally of no rows for each aggregate.
-pub fn no_tallies(alloc: Global, aggregates: &[Aggregate]) -> Result<Vec<Tally>, AllocError>
+pub fn no_tallies(
+    alloc: Global,
+    hash_key: HashKey,
+    aggregates: &[Aggregate],
+) -> Result<Vec<Tally>, AllocError>
     ensures { IfOk result (λ tallies. AreTallied aggregates.now [] tallies.items) }
 {
     let mut tallies = Vec::new(alloc);
     for aggregate in aggregates {
-        tallies.push(Tally::new(alloc, aggregate_kind(*aggregate))?)?;
+        tallies.push(Tally::new(alloc, hash_key, aggregate_kind(*aggregate))?)?;
     }
     Ok(tallies)
 }

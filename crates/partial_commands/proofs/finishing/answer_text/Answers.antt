@@ -5,7 +5,7 @@ use Rattle.partial_commands.proofs.PartialAnswerTurns.{answer_is}
 use Rattle.partial_commands.proofs.finishing.answer_text.Goals as goal
 
 pub returns-clause-text : goal.returns-clause-text
-returns-clause-text c = answer_is c.args.format c.args.partial c.in_ok-answer.answer c.in_ok-text.text.items c.in_ok-answer.ensures.answer c.in_ok-text.ensures
+returns-clause-text c = answer_is c.args.format c.args.partial c.in_ok-answer.answer c.in_ok-text.text.items c.in_ok-answer.ensures.asked c.in_ok-answer.ensures.answer c.in_ok-text.ensures
 
 pub returns-in_err-answer-clause-refused : goal.returns-in_err-answer-clause-refused
 returns-in_err-answer-clause-refused c =

@@ -60,7 +60,7 @@ returns-clause-read c =
     let text = c.args.sql.now in
     let given : Result PartialAnswerMeaning Refusal = Ok (meaning_with table text (partial_answer_of table query state) state) in
     let after : Result QueryShape Refusal → Result PartialAnswerMeaning Refusal = λ x. x >>= λ q. resolved table q >>= λ done. Ok (meaning_with table text (partial_answer_of table q state) state) in
-    let groups : partial_answer_in c.in_ok-groups.groups ≡ partial_answer_of table query state = c.in_ok-groups.ensures.value ∙ ap (λ (v : ViewForm). partial_answer_of v.table query v.state) c.new.ensures in
+    let groups : partial_answer_in c.in_ok-groups.groups ≡ partial_answer_of table query state = c.in_ok-groups.ensures.value ∙ ap (λ (v : ViewForm). partial_answer_of v.table query v.state) c.with_hash_key-view.ensures in
     let read : query_partial_answer text table state ≡ Ok (meaning_with table text (partial_answer_in c.in_ok-groups.groups) state) =
     ap after c.in_ok-query.ensures.reads
     ∙ ap (λ (t : Table). resolved t query >>= λ done. given) (sym c.schema.ensures)
@@ -75,5 +75,5 @@ pub returns-clause-shape : goal.returns-clause-shape
 returns-clause-shape c = c.partial_answer_with.ensures.shape (λ query asked.
     let table = c.args.store.now.replica.schema in
     let mine : QueryShape = c.in_ok-query.query in
-    let here : HaveShape table mine c.in_ok-groups.groups = subst (λ (v : ViewForm). HaveShape v.table mine c.in_ok-groups.groups) c.new.ensures c.in_ok-groups.ensures.shape in
+    let here : HaveShape table mine c.in_ok-groups.groups = subst (λ (v : ViewForm). HaveShape v.table mine c.in_ok-groups.groups) c.with_hash_key-view.ensures c.in_ok-groups.ensures.shape in
     subst (λ (q : QueryShape). HaveShape table q c.in_ok-groups.groups) (one_query _ mine query c.in_ok-query.ensures.reads asked) here)

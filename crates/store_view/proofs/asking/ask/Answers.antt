@@ -40,7 +40,7 @@ returns-clause-read c =
     ap (answer_where table state) c.in_ok-query.ensures.reads
     ∙ ap (λ (t : Table). unless_refused (resolved t query) (answer_of table query state)) (sym c.schema.ensures)
     ∙ ap (λ r. unless_refused r (answer_of table query state)) (sym c.in_ok-resolve.ensures.resolved)
-    ∙ sym (ap Ok (c.in_ok-answer.ensures.value ∙ ap (λ (v : ViewForm). answer_of v.table query v.state) c.new.ensures))
+    ∙ sym (ap Ok (c.in_ok-answer.ensures.value ∙ ap (λ (v : ViewForm). answer_of v.table query v.state) c.with_hash_key.ensures))
 
 pub returns-in_err-query-clause-refused : goal.returns-in_err-query-clause-refused
 returns-in_err-query-clause-refused c =

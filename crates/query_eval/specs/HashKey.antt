@@ -1,0 +1,21 @@
+-- What a keyed hasher computes.
+use Rattle.std.specs.Prelude.{ℕ, ◌*◌, ◌-◌, ◌/◌, ◌^◌, List, bit_and, bit_xor}
+use Rattle.std.specs.Hash.FoldHasher as folding
+use Rattle.query_eval.specs.declared.hash_key.HashKey.{HashKey}
+use Rattle.query_eval.specs.declared.hash_key.KeyedHasher.{KeyedHasher}
+
+-- the two halves of the 128 bits of a * b, joined by xor
+unfoldable pub folded : ℕ → ℕ → ℕ
+folded a b = bit_xor (bit_and (a * b) (2 ^ 64 - 1)) (a * b / 2 ^ 64)
+
+-- the hasher that a key makes
+abbrev pub keyed_hasher : HashKey → KeyedHasher
+keyed_hasher key = record { folding = key.start; factor = key.factor }
+
+-- the hasher after one write
+abbrev pub keyed_write : KeyedHasher → List ℕ → KeyedHasher
+keyed_write h bytes = record h { folding = folding.write h.folding bytes }
+
+-- what it answers
+abbrev pub keyed_finish : KeyedHasher → ℕ
+keyed_finish h = folded (folding.finish h.folding) h.factor
