@@ -4,7 +4,7 @@ use Rattle.std.specs.Io.KnownBytes.{IsAtEnd}
 use Rattle.std.proofs.Common.{refl, sym, ap, ◌∙◌, arith, subst, append_assoc, inl, inr}
 use Rattle.std.proofs.lemmas.Bool.Decides.{nat_tests}
 use Rattle.std.proofs.lemmas.List.{append-nil}
-use Rattle.csv_rows.specs.Line.{line_limit, lines_of, unmarked}
+use Rattle.csv_rows.specs.Line.{TextLine, line_limit, text_line, ended, unended, lines_of, unmarked}
 use Rattle.csv_rows.specs.LineReading.{lines_after, FirstTooLong, Grows}
 use Rattle.csv_rows.specs.Reading.{AsKnown}
 use Rattle.csv_rows.proofs.KnownFacts.{known_both, known_map, known_self, consumed}
@@ -26,47 +26,47 @@ sofar_part first part pending part' pending' count a b c so_far goes grows =
     (λ x y z p q. p ∙ goes y ∙ ap (lines_after part') q ∙ ap (λ (chunk : List ℕ). lines_after part' (chunk ++ z)) (sym grows.2)) a b c so_far (consumed b c grows.0 grows.3)
 
 -- a line was taken
-pub sofar_line : (first part pending line pending' : List ℕ) (count : ℕ) (a b : Option (List ℕ)) → Sofar first part pending a b
-    → ((more : List ℕ) → lines_after part (pending ++ more) ≡ line ∷ lines_of (drop count pending ++ more)) → pending' ≡ drop count pending
-    → AsKnown (λ bytes rest. lines_of (first ++ bytes) ≡ line ∷ lines_of (pending' ++ rest)) a b
-sofar_line first part pending line pending' count a b so_far takes is =
-    known_map (λ bytes rest. lines_of (first ++ bytes) ≡ lines_after part (pending ++ rest)) (λ bytes rest. lines_of (first ++ bytes) ≡ line ∷ lines_of (pending' ++ rest))
-    (λ x y p. p ∙ takes y ∙ ap (λ (left : List ℕ). line ∷ lines_of (left ++ y)) (sym is)) a b so_far
+pub sofar_line : (first part pending line pending' : List ℕ) (has_end : Bool) (count : ℕ) (a b : Option (List ℕ)) → Sofar first part pending a b
+    → ((more : List ℕ) → lines_after part (pending ++ more) ≡ ended line ∷ lines_of (drop count pending ++ more)) → pending' ≡ drop count pending → has_end ≡ true
+    → AsKnown (λ bytes rest. lines_of (first ++ bytes) ≡ text_line line has_end ∷ lines_of (pending' ++ rest)) a b
+sofar_line first part pending line pending' has_end count a b so_far takes is end =
+    known_map (λ bytes rest. lines_of (first ++ bytes) ≡ lines_after part (pending ++ rest)) (λ bytes rest. lines_of (first ++ bytes) ≡ text_line line has_end ∷ lines_of (pending' ++ rest))
+    (λ x y p. p ∙ takes y ∙ (λ i. text_line line (sym end i) ∷ lines_of (sym is i ++ y))) a b so_far
 
 -- the line is too long
 pub sofar_long : (first part pending : List ℕ) (a b : Option (List ℕ)) → Sofar first part pending a b → ((more : List ℕ) → FirstTooLong (lines_after part (pending ++ more)))
     → AsKnown (λ bytes rest. FirstTooLong (lines_of (first ++ bytes))) a b
 sofar_long first part pending a b so_far long =
     known_map (λ bytes rest. lines_of (first ++ bytes) ≡ lines_after part (pending ++ rest)) (λ bytes rest. FirstTooLong (lines_of (first ++ bytes)))
-    (λ x y p. subst (λ (lines : List (List ℕ)). FirstTooLong lines) (sym p) (long y)) a b so_far
+    (λ x y p. subst (λ (lines : List TextLine). FirstTooLong lines) (sym p) (long y)) a b so_far
 
 -- at the end the part alone is left
 at_last : (first part pending' : List ℕ) (a b : Option (List ℕ)) → Sofar first part pending' a b → pending' ≡ [] → IsAtEnd b
-    → AsKnown (λ bytes rest. (lines_of (first ++ bytes) ≡ cond (length part == 0) [] (part ∷ [])) × (rest ≡ [])) a b
+    → AsKnown (λ bytes rest. (lines_of (first ++ bytes) ≡ cond (length part == 0) [] (unended part ∷ [])) × (rest ≡ [])) a b
 at_last first part pending' None b so_far none end = tt
 at_last first part pending' (Some x) None so_far none end = absurd so_far
 at_last first part pending' (Some x) (Some y) so_far none end = (so_far ∙ (λ i. lines_after part (none i ++ end i)) ∙ lines_last part, end)
 
-pub last_line : (first part pending' line new : List ℕ) (a b : Option (List ℕ)) → Sofar first part pending' a b → pending' ≡ [] → IsAtEnd b → 0 < length part → line ≡ part → new ≡ pending'
-    → AsKnown (λ bytes rest. lines_of (first ++ bytes) ≡ line ∷ lines_of (new ++ rest)) a b
-last_line first part pending' line new a b so_far none end some same kept =
+pub last_line : (first part pending' line new : List ℕ) (has_end : Bool) (a b : Option (List ℕ)) → Sofar first part pending' a b → pending' ≡ [] → IsAtEnd b → 0 < length part → line ≡ part → has_end ≡ false → new ≡ pending'
+    → AsKnown (λ bytes rest. lines_of (first ++ bytes) ≡ text_line line has_end ∷ lines_of (new ++ rest)) a b
+last_line first part pending' line new has_end a b so_far none end some same cut kept =
     let test : (length part == 0) ≡ false = grind (arith, nat_tests) in
-    known_map (λ bytes rest. (lines_of (first ++ bytes) ≡ cond (length part == 0) [] (part ∷ [])) × (rest ≡ [])) (λ bytes rest. lines_of (first ++ bytes) ≡ line ∷ lines_of (new ++ rest))
-    (λ x y p. p.0 ∙ ap (λ (t : Bool). cond t [] (part ∷ [])) test ∙ (λ i. sym same i ∷ lines_of (sym (kept ∙ none) i ++ sym p.1 i))) a b (at_last first part pending' a b so_far none end)
+    known_map (λ bytes rest. (lines_of (first ++ bytes) ≡ cond (length part == 0) [] (unended part ∷ [])) × (rest ≡ [])) (λ bytes rest. lines_of (first ++ bytes) ≡ text_line line has_end ∷ lines_of (new ++ rest))
+    (λ x y p. p.0 ∙ ap (λ (t : Bool). cond t [] (unended part ∷ [])) test ∙ (λ i. text_line (sym same i) (sym cut i) ∷ lines_of (sym (kept ∙ none) i ++ sym p.1 i))) a b (at_last first part pending' a b so_far none end)
 
 pub no_line : (first part pending' new : List ℕ) (a b : Option (List ℕ)) → Sofar first part pending' a b → pending' ≡ [] → IsAtEnd b → length part ≡ 0 → new ≡ pending'
     → AsKnown (λ bytes rest. (lines_of (first ++ bytes) ≡ []) × (lines_of (new ++ rest) ≡ [])) a b
 no_line first part pending' new a b so_far none end empty kept =
     let test : (length part == 0) ≡ true = grind (arith, nat_tests) in
-    known_map (λ bytes rest. (lines_of (first ++ bytes) ≡ cond (length part == 0) [] (part ∷ [])) × (rest ≡ [])) (λ bytes rest. (lines_of (first ++ bytes) ≡ []) × (lines_of (new ++ rest) ≡ []))
-    (λ x y p. (p.0 ∙ ap (λ (t : Bool). cond t [] (part ∷ [])) test, (λ i. lines_of ((kept ∙ none) i ++ p.1 i)))) a b (at_last first part pending' a b so_far none end)
+    known_map (λ bytes rest. (lines_of (first ++ bytes) ≡ cond (length part == 0) [] (unended part ∷ [])) × (rest ≡ [])) (λ bytes rest. (lines_of (first ++ bytes) ≡ []) × (lines_of (new ++ rest) ≡ []))
+    (λ x y p. (p.0 ∙ ap (λ (t : Bool). cond t [] (unended part ∷ [])) test, (λ i. lines_of ((kept ∙ none) i ++ p.1 i)))) a b (at_last first part pending' a b so_far none end)
 
 pub long_last : (first part pending' : List ℕ) (a b : Option (List ℕ)) → Sofar first part pending' a b → pending' ≡ [] → IsAtEnd b → line_limit < length part
     → AsKnown (λ bytes rest. FirstTooLong (lines_of (first ++ bytes))) a b
 long_last first part pending' a b so_far none end long =
     let test : (length part == 0) ≡ false = grind (arith, nat_tests) in
-    known_map (λ bytes rest. (lines_of (first ++ bytes) ≡ cond (length part == 0) [] (part ∷ [])) × (rest ≡ [])) (λ bytes rest. FirstTooLong (lines_of (first ++ bytes)))
-    (λ x y p. subst (λ (lines : List (List ℕ)). FirstTooLong lines) (sym (p.0 ∙ ap (λ (t : Bool). cond t [] (part ∷ [])) test)) long) a b (at_last first part pending' a b so_far none end)
+    known_map (λ bytes rest. (lines_of (first ++ bytes) ≡ cond (length part == 0) [] (unended part ∷ [])) × (rest ≡ [])) (λ bytes rest. FirstTooLong (lines_of (first ++ bytes)))
+    (λ x y p. subst (λ (lines : List TextLine). FirstTooLong lines) (sym (p.0 ∙ ap (λ (t : Bool). cond t [] (unended part ∷ [])) test)) long) a b (at_last first part pending' a b so_far none end)
 
 -- the bytes before a mark was sought
 abbrev pub Head : List ℕ → List ℕ → Option (List ℕ) → Option (List ℕ) → Type 0

@@ -18,7 +18,7 @@ use Rattle.table_model.specs.declared.refusal.Refusal.TheVariants.{BadSchema}
 use Rattle.table_model.specs.declared.schema.ColType.{ColType}
 use Rattle.table_model.specs.declared.schema.ColType.TheVariants.{TinyInt, SmallInt, Integer, BigInt}
 use Rattle.table_model.proofs.SameTable.{itself_text}
-use Rattle.csv_rows.specs.Line.{line_limit, before_last, text_or, lines_between, lines_of, unmarked}
+use Rattle.csv_rows.specs.Line.{TextLine, line_limit, before_last, text_or, ended, lines_between, lines_of, unmarked}
 use Rattle.table_model.specs.Pieces.{pieces, onto_first, without}
 use Rattle.table_model.specs.Numeral.{is_numeral, magnitude_of, value_digits, integer_of, signed_of}
 use Rattle.csv_rows.specs.Field.{fields_of, unquoted, is_null_word, value_of, cell_of, fitting, cell_in}
@@ -84,14 +84,14 @@ no_last c (x ∷ []) h = ap (λ (t : Bool). cond t (Some []) None) (other c x h.
 no_last c (x ∷ y ∷ ys) h = ap (option_map (λ (text : List ℕ). x ∷ text)) (no_last c (y ∷ ys) h.1)
 
 -- the first line of a text that begins with one
-line_first : (line more : List ℕ) → AllFrom 44 line → lines_of ((line ++ (10 ∷ [])) ++ more) ≡ line ∷ lines_of more
+line_first : (line more : List ℕ) → AllFrom 44 line → lines_of ((line ++ (10 ∷ [])) ++ more) ≡ ended line ∷ lines_of more
 line_first line more h =
     let next = first_piece 10 more in
     ap lines_of (append_assoc line (10 ∷ []) more)
     ∙ ap lines_between (pieces_end 10 line more (from_less 11 44 line (omega arith) h))
     ∙ ap (λ (ps : List (List ℕ)). lines_between (line ∷ ps)) next.2
-    ∙ ap (λ (o : Option (List ℕ)). text_or o line ∷ lines_between (next.0 ∷ next.1)) (no_last 13 line (from_less 14 44 line (omega arith) h))
-    ∙ ap (λ (ps : List (List ℕ)). line ∷ lines_between ps) (sym next.2)
+    ∙ ap (λ (o : Option (List ℕ)). ended (text_or o line) ∷ lines_between (next.0 ∷ next.1)) (no_last 13 line (from_less 14 44 line (omega arith) h))
+    ∙ ap (λ (ps : List (List ℕ)). ended line ∷ lines_between ps) (sym next.2)
 
 -- ---- numbers
 
@@ -279,7 +279,7 @@ fields_row (c ∷ cs) (v ∷ vs) some h = fields_joined (cell_text v) (map cell_
 
 -- the line of a row makes the row
 row_line_rows : (columns : List ColumnShape) (row : Cells) (n : ℕ) → 1 ≤ length columns → length columns ≤ column_limit → IsRow columns row
-    → line_rows usual columns (own_order columns) n (joined (map cell_text row)) ≡ Ok (row ∷ [])
+    → line_rows usual columns (own_order columns) n (ended (joined (map cell_text row))) ≡ Ok (row ∷ [])
 unfolding line_rows
 row_line_rows columns row n some few h =
     let line : List ℕ = joined (map cell_text row) in
@@ -304,7 +304,7 @@ rows_lines columns (row ∷ rows) n some few h =
     let order : List (Option ℕ) = own_order columns in
     let line : List ℕ = joined (map cell_text row) in
     ap (rows_from usual columns order n) (line_first line (flat_map row_line rows) (joined_from (map cell_text row) (cells_from columns row h.0)))
-    ∙ first_rows usual columns order n line (lines_of (flat_map row_line rows)) (row ∷ []) (row_line_rows columns row n some few h.0)
+    ∙ first_rows usual columns order n (ended line) (lines_of (flat_map row_line rows)) (row ∷ []) (row_line_rows columns row n some few h.0)
     ∙ ap (before_rows (row ∷ [])) (rows_lines columns rows (suc n) some few h.1)
 
 -- ---- the header
@@ -435,7 +435,7 @@ joined_some t [] h = h
 joined_some t (u ∷ us) h = omega (arith, h, length-append t (44 ∷ joined (u ∷ us)))
 
 header_is : (columns : List ColumnShape) → 1 ≤ length columns → length columns ≤ column_limit → AreNamed columns → are_distinct (names columns) ≡ true
-    → header_order usual columns (joined (map column_name columns)) ≡ Ok (own_order columns)
+    → header_order usual columns (ended (joined (map column_name columns))) ≡ Ok (own_order columns)
 unfolding header_order
 header_is [] some few named distinct = absurd (omega arith)
 header_is (c ∷ cs) some few named distinct =

@@ -9,11 +9,11 @@ use Rattle.table_model.specs.State.{Cells, Batch}
 use Rattle.table_model.specs.Table.{ColumnShape, least_of, greatest_of, fits, Fits, IsRow, AreRows}
 use Rattle.table_model.specs.declared.refusal.Refusal.{Refusal}
 use Rattle.table_model.specs.declared.refusal.Refusal.TheVariants.{Memory}
-use Rattle.csv_rows.specs.Line.{line_limit}
+use Rattle.csv_rows.specs.Line.{TextLine, line_limit}
 use Rattle.csv_rows.specs.LineReading.{FirstTooLong}
 use Rattle.csv_rows.specs.Field.{fields_of, cell_of, cell_in, fitting}
 use Rattle.csv_rows.specs.DialectForm.{DialectForm}
-use Rattle.csv_rows.specs.CsvText.{◌>>=◌, in_line, place_named, new_place, is_passed, row_of, has_each, width_of, each_of, named_order, unless_row, cell_at, or_at, with_field, filled, null_row, line_rows, before_rows, rows_from, order_from, header_order, header_rows}
+use Rattle.csv_rows.specs.CsvText.{◌>>=◌, in_line, place_named, new_place, is_cut, may_name, is_passed, row_of, uncut_row, has_each, width_of, each_of, named_order, unless_row, cell_at, or_at, with_field, filled, null_row, line_rows, before_rows, rows_from, order_from, header_order, header_rows}
 use Rattle.csv_rows.specs.Outcome.{ReadsCsv}
 use Rattle.csv_rows.specs.Reading.{Counts}
 use Rattle.csv_rows.specs.declared.error.CsvError.{CsvError}
@@ -28,31 +28,31 @@ before_nothing (Ok more) = refl
 before_nothing (Err e) = refl
 
 -- the rows of the first line
-pub first_rows : (dialect : DialectForm) (columns : List ColumnShape) (order : List (Option ℕ)) (n : ℕ) (line : List ℕ) (lines : List (List ℕ)) (made : Batch) → line_rows dialect columns order n line ≡ Ok made
+pub first_rows : (dialect : DialectForm) (columns : List ColumnShape) (order : List (Option ℕ)) (n : ℕ) (line : TextLine) (lines : List TextLine) (made : Batch) → line_rows dialect columns order n line ≡ Ok made
     → rows_from dialect columns order n (line ∷ lines) ≡ before_rows made (rows_from dialect columns order (suc n) lines)
 first_rows dialect columns order n line lines made e = ap (λ (r : Result Batch CsvError). r >>= (λ rows. before_rows rows (rows_from dialect columns order (suc n) lines))) e
 
 -- the fault of the first line
-pub first_fault : (dialect : DialectForm) (columns : List ColumnShape) (order : List (Option ℕ)) (n : ℕ) (line : List ℕ) (lines : List (List ℕ)) (fault : CsvError) → line_rows dialect columns order n line ≡ Err fault → rows_from dialect columns order n (line ∷ lines) ≡ Err fault
+pub first_fault : (dialect : DialectForm) (columns : List ColumnShape) (order : List (Option ℕ)) (n : ℕ) (line : TextLine) (lines : List TextLine) (fault : CsvError) → line_rows dialect columns order n line ≡ Err fault → rows_from dialect columns order n (line ∷ lines) ≡ Err fault
 first_fault dialect columns order n line lines fault e = ap (λ (r : Result Batch CsvError). r >>= (λ rows. before_rows rows (rows_from dialect columns order (suc n) lines))) e
 
-long_line : (dialect : DialectForm) (columns : List ColumnShape) (order : List (Option ℕ)) (n : ℕ) (line : List ℕ) → line_limit < length line → line_rows dialect columns order n line ≡ Err (LineTooLong n)
+long_line : (dialect : DialectForm) (columns : List ColumnShape) (order : List (Option ℕ)) (n : ℕ) (line : TextLine) → line_limit < length line.bytes → line_rows dialect columns order n line ≡ Err (LineTooLong n)
 unfolding line_rows
 long_line dialect columns order n line past =
-    let test : nat_lt line_limit (length line) ≡ true = grind (arith, nat_tests) in
-    ap (λ (t : Bool). cond t (Err (LineTooLong n)) (cond (is_passed order line) (Ok []) (in_line n (row_of dialect columns order line) >>= (λ row. Ok (row ∷ []))))) test
+    let test : nat_lt line_limit (length line.bytes) ≡ true = grind (arith, nat_tests) in
+    ap (λ (t : Bool). cond t (Err (LineTooLong n)) (cond (is_passed order line.bytes) (Ok []) (in_line n (uncut_row dialect columns order line) >>= (λ row. Ok (row ∷ []))))) test
 
-pub too_long : (dialect : DialectForm) (columns : List ColumnShape) (order : List (Option ℕ)) (n : ℕ) (lines : List (List ℕ)) → FirstTooLong lines → rows_from dialect columns order n lines ≡ Err (LineTooLong n)
+pub too_long : (dialect : DialectForm) (columns : List ColumnShape) (order : List (Option ℕ)) (n : ℕ) (lines : List TextLine) → FirstTooLong lines → rows_from dialect columns order n lines ≡ Err (LineTooLong n)
 too_long dialect columns order n [] h = absurd h
 too_long dialect columns order n (line ∷ lines) h = first_fault dialect columns order n line lines (LineTooLong n) (long_line dialect columns order n line h)
 
-long_header : (dialect : DialectForm) (columns : List ColumnShape) (line : List ℕ) → line_limit < length line → header_order dialect columns line ≡ Err (LineTooLong 1)
+long_header : (dialect : DialectForm) (columns : List ColumnShape) (line : TextLine) → line_limit < length line.bytes → header_order dialect columns line ≡ Err (LineTooLong 1)
 unfolding header_order
 long_header dialect columns line past =
-    let test : nat_lt line_limit (length line) ≡ true = grind (arith, nat_tests) in
-    ap (λ (t : Bool). cond t (Err (LineTooLong 1)) (cond (not (length line == 0) && has_each dialect (width_of dialect.order columns) line) (named_order dialect dialect.order columns line) (Err (BadCsv 1 0)))) test
+    let test : nat_lt line_limit (length line.bytes) ≡ true = grind (arith, nat_tests) in
+    ap (λ (t : Bool). cond t (Err (LineTooLong 1)) (cond (may_name dialect columns line) (named_order dialect dialect.order columns line.bytes) (Err (BadCsv 1 0)))) test
 
-pub header_too_long : (dialect : DialectForm) (columns : List ColumnShape) (lines : List (List ℕ)) → FirstTooLong lines → header_rows dialect columns lines ≡ Err (LineTooLong 1)
+pub header_too_long : (dialect : DialectForm) (columns : List ColumnShape) (lines : List TextLine) → FirstTooLong lines → header_rows dialect columns lines ≡ Err (LineTooLong 1)
 header_too_long dialect columns [] h = absurd h
 header_too_long dialect columns (line ∷ lines) h = ap (λ (r : Result (List (Option ℕ)) CsvError). r >>= (λ order. rows_from dialect columns order 2 lines)) (long_header dialect columns line h)
 
@@ -109,30 +109,34 @@ filled_fits dialect columns at (place ∷ order) (field ∷ fields) row row' h e
     by (Ok mid) goes g = goes mid refl g
 
 -- a line's rows are rows of the table
-pub line_fits : (dialect : DialectForm) (columns : List ColumnShape) (order : List (Option ℕ)) (n : ℕ) (line : List ℕ) (made : Batch) → line_rows dialect columns order n line ≡ Ok made → AreRows columns made
+pub line_fits : (dialect : DialectForm) (columns : List ColumnShape) (order : List (Option ℕ)) (n : ℕ) (line : TextLine) (made : Batch) → line_rows dialect columns order n line ≡ Ok made → AreRows columns made
 unfolding line_rows
 line_fits dialect columns order n line made e =
-    elim (nat_lt line_limit (length line)) as (λ t. cond t (Err (LineTooLong n)) (cond (is_passed order line) (Ok []) (in_line n (row_of dialect columns order line) >>= (λ row. Ok (row ∷ [])))) ≡ Ok made → AreRows columns made) [
+    elim (nat_lt line_limit (length line.bytes)) as (λ t. cond t (Err (LineTooLong n)) (cond (is_passed order line.bytes) (Ok []) (in_line n (uncut_row dialect columns order line) >>= (λ row. Ok (row ∷ [])))) ≡ Ok made → AreRows columns made) [
       | true ↦ λ h. cc
-      | false ↦ λ h. elim (is_passed order line) as (λ t. cond t (Ok []) (in_line n (row_of dialect columns order line) >>= (λ row. Ok (row ∷ []))) ≡ Ok made → AreRows columns made) [
+      | false ↦ λ h. elim (is_passed order line.bytes) as (λ t. cond t (Ok []) (in_line n (uncut_row dialect columns order line) >>= (λ row. Ok (row ∷ []))) ≡ Ok made → AreRows columns made) [
         | true ↦ λ g. let same : [] ≡ made = cc in subst (λ (rows : Batch). AreRows columns rows) same tt
-        | false ↦ λ g. one (row_of dialect columns order line) refl g
+        | false ↦ λ g. one (uncut_row dialect columns order line) refl g
       ] h
     ] e where
-      row_fits : (t : Bool) (row : Cells) → cond t (filled dialect columns 1 order (fields_of dialect.separator line) (null_row columns)) (Err 0) ≡ Ok row → IsRow columns row
-      row_fits true row h = filled_fits dialect columns 1 order (fields_of dialect.separator line) (null_row columns) row (null_fits columns) h
+      row_fits : (t : Bool) (row : Cells) → cond t (filled dialect columns 1 order (fields_of dialect.separator line.bytes) (null_row columns)) (Err 0) ≡ Ok row → IsRow columns row
+      row_fits true row h = filled_fits dialect columns 1 order (fields_of dialect.separator line.bytes) (null_row columns) row (null_fits columns) h
       row_fits false row h = cc
 
-      one : (r : Result Cells ℕ) → row_of dialect columns order line ≡ r → in_line n r >>= (λ row. Ok (row ∷ [])) ≡ Ok made → AreRows columns made
+      uncut_fits : (cut : Bool) (row : Cells) → cond cut (Err 0) (row_of dialect columns order line.bytes) ≡ Ok row → IsRow columns row
+      uncut_fits true row h = cc
+      uncut_fits false row h = row_fits (has_each dialect (length order) line.bytes) row h
+
+      one : (r : Result Cells ℕ) → uncut_row dialect columns order line ≡ r → in_line n r >>= (λ row. Ok (row ∷ [])) ≡ Ok made → AreRows columns made
       one (Err at) is g = cc
-      one (Ok row) is g = let same : row ∷ [] ≡ made = cc in subst (λ (rows : Batch). AreRows columns rows) same (row_fits (has_each dialect (length order) line) row is, tt)
+      one (Ok row) is g = let same : row ∷ [] ≡ made = cc in subst (λ (rows : Batch). AreRows columns rows) same (uncut_fits (is_cut dialect line) row is, tt)
 
 pub fits_append : (columns : List ColumnShape) (xs ys : Batch) → AreRows columns xs → AreRows columns ys → AreRows columns (xs ++ ys)
 fits_append columns [] ys h g = g
 fits_append columns (x ∷ xs) ys h g = (h.0, fits_append columns xs ys h.1 g)
 
 -- what was read behind rows keeps them rows of the table
-pub behind_fits : (dialect : DialectForm) (columns : List ColumnShape) (order : List (Option ℕ)) (n : ℕ) (line : List ℕ) (old new made : Batch) → line_rows dialect columns order n line ≡ Ok made → new ≡ old ++ made → AreRows columns old → AreRows columns new
+pub behind_fits : (dialect : DialectForm) (columns : List ColumnShape) (order : List (Option ℕ)) (n : ℕ) (line : TextLine) (old new made : Batch) → line_rows dialect columns order n line ≡ Ok made → new ≡ old ++ made → AreRows columns old → AreRows columns new
 behind_fits dialect columns order n line old new made e is h = subst (λ (rows : Batch). AreRows columns rows) (sym is) (fits_append columns old made h (line_fits dialect columns order n line made e))
 
 -- one field more of a header
@@ -163,26 +167,26 @@ filled_all dialect columns at [] fields row none = refl
 filled_all dialect columns at (place ∷ order) fields row none = ap (λ (fs : List (List ℕ)). filled dialect columns at (place ∷ order) fs row) none
 
 -- a line's fault is of the text, never a refusal
-no_refusal : (dialect : DialectForm) (columns : List ColumnShape) (order : List (Option ℕ)) (n : ℕ) (line : List ℕ) (r : Refusal) → line_rows dialect columns order n line ≡ Err (Refused r) → ⊥
+no_refusal : (dialect : DialectForm) (columns : List ColumnShape) (order : List (Option ℕ)) (n : ℕ) (line : TextLine) (r : Refusal) → line_rows dialect columns order n line ≡ Err (Refused r) → ⊥
 unfolding line_rows
 no_refusal dialect columns order n line r e =
-    elim (nat_lt line_limit (length line)) as (λ t. cond t (Err (LineTooLong n)) (cond (is_passed order line) (Ok []) (in_line n (row_of dialect columns order line) >>= (λ row. Ok (row ∷ [])))) ≡ Err (Refused r) → ⊥) [
+    elim (nat_lt line_limit (length line.bytes)) as (λ t. cond t (Err (LineTooLong n)) (cond (is_passed order line.bytes) (Ok []) (in_line n (uncut_row dialect columns order line) >>= (λ row. Ok (row ∷ [])))) ≡ Err (Refused r) → ⊥) [
       | true ↦ λ h. cc
-      | false ↦ λ h. elim (is_passed order line) as (λ t. cond t (Ok []) (in_line n (row_of dialect columns order line) >>= (λ row. Ok (row ∷ []))) ≡ Err (Refused r) → ⊥) [
+      | false ↦ λ h. elim (is_passed order line.bytes) as (λ t. cond t (Ok []) (in_line n (uncut_row dialect columns order line) >>= (λ row. Ok (row ∷ []))) ≡ Err (Refused r) → ⊥) [
         | true ↦ λ g. cc
-        | false ↦ λ g. one (row_of dialect columns order line) g
+        | false ↦ λ g. one (uncut_row dialect columns order line) g
       ] h
     ] e where
       one : (row : Result Cells ℕ) → in_line n row >>= (λ row. Ok (row ∷ [])) ≡ Err (Refused r) → ⊥
       one (Ok row) g = cc
       one (Err at) g = cc
 
-no_header_refusal : (dialect : DialectForm) (columns : List ColumnShape) (line : List ℕ) (r : Refusal) → header_order dialect columns line ≡ Err (Refused r) → ⊥
+no_header_refusal : (dialect : DialectForm) (columns : List ColumnShape) (line : TextLine) (r : Refusal) → header_order dialect columns line ≡ Err (Refused r) → ⊥
 unfolding header_order
 no_header_refusal dialect columns line r e =
-    elim (nat_lt line_limit (length line)) as (λ t. cond t (Err (LineTooLong 1)) (cond (not (length line == 0) && has_each dialect (width_of dialect.order columns) line) (named_order dialect dialect.order columns line) (Err (BadCsv 1 0))) ≡ Err (Refused r) → ⊥) [
+    elim (nat_lt line_limit (length line.bytes)) as (λ t. cond t (Err (LineTooLong 1)) (cond (may_name dialect columns line) (named_order dialect dialect.order columns line.bytes) (Err (BadCsv 1 0))) ≡ Err (Refused r) → ⊥) [
       | true ↦ λ h. cc
-      | false ↦ λ h. elim (not (length line == 0) && has_each dialect (width_of dialect.order columns) line) as (λ t. cond t (named_order dialect dialect.order columns line) (Err (BadCsv 1 0)) ≡ Err (Refused r) → ⊥) [
+      | false ↦ λ h. elim (may_name dialect columns line) as (λ t. cond t (named_order dialect dialect.order columns line.bytes) (Err (BadCsv 1 0)) ≡ Err (Refused r) → ⊥) [
         | true ↦ λ g. one dialect.order g
         | false ↦ λ g. cc
       ] h
@@ -195,24 +199,24 @@ no_header_refusal dialect columns line r e =
       given order (Ok row) g = cc
       given order (Err e) g = cc
 
-      one : (order : Option (List (Option ℕ))) → named_order dialect order columns line ≡ Err (Refused r) → ⊥
-      one None g = named (order_from columns 1 [] (fields_of dialect.separator line)) g
-      one (Some order) g = given order (in_line 1 (row_of dialect columns order line)) g
+      one : (order : Option (List (Option ℕ))) → named_order dialect order columns line.bytes ≡ Err (Refused r) → ⊥
+      one None g = named (order_from columns 1 [] (fields_of dialect.separator line.bytes)) g
+      one (Some order) g = given order (in_line 1 (row_of dialect columns order line.bytes)) g
 
 -- the reader below didn't fail where a line is at fault, or memory lacked
-pub counts_line : (many : Type 0) (dialect : DialectForm) (columns : List ColumnShape) (order : List (Option ℕ)) (n : ℕ) (line : List ℕ) (e : CsvError) (before after : ℕ) → (line_rows dialect columns order n line ≡ Err e) ⊎ (e ≡ Refused Memory) → after ≡ before → Counts many e before after
+pub counts_line : (many : Type 0) (dialect : DialectForm) (columns : List ColumnShape) (order : List (Option ℕ)) (n : ℕ) (line : TextLine) (e : CsvError) (before after : ℕ) → (line_rows dialect columns order n line ≡ Err e) ⊎ (e ≡ Refused Memory) → after ≡ before → Counts many e before after
 counts_line many dialect columns order n line e before after (inr lack) same = subst (λ (fault : CsvError). Counts many fault before after) (sym lack) same
 counts_line many dialect columns order n line (BadCsv l column) before after (inl fault) same = same
 counts_line many dialect columns order n line (LineTooLong l) before after (inl fault) same = same
 counts_line many dialect columns order n line (Refused r) before after (inl fault) same = absurd (no_refusal dialect columns order n line r fault)
 
-pub counts_header : (many : Type 0) (dialect : DialectForm) (columns : List ColumnShape) (line : List ℕ) (e : CsvError) (before after : ℕ) → (header_order dialect columns line ≡ Err e) ⊎ (e ≡ Refused Memory) → after ≡ before → Counts many e before after
+pub counts_header : (many : Type 0) (dialect : DialectForm) (columns : List ColumnShape) (line : TextLine) (e : CsvError) (before after : ℕ) → (header_order dialect columns line ≡ Err e) ⊎ (e ≡ Refused Memory) → after ≡ before → Counts many e before after
 counts_header many dialect columns line e before after (inr lack) same = subst (λ (fault : CsvError). Counts many fault before after) (sym lack) same
 counts_header many dialect columns line (BadCsv l column) before after (inl fault) same = same
 counts_header many dialect columns line (LineTooLong l) before after (inl fault) same = same
 counts_header many dialect columns line (Refused r) before after (inl fault) same = absurd (no_header_refusal dialect columns line r fault)
 
-pub header_counts : {X : Type 0} (view : X → List (Option ℕ)) (many : Type 0) (dialect : DialectForm) (columns : List ColumnShape) (line : List ℕ) (r : Result X CsvError) (before after : ℕ) → ReadsCsv view r (header_order dialect columns line) → after ≡ before
+pub header_counts : {X : Type 0} (view : X → List (Option ℕ)) (many : Type 0) (dialect : DialectForm) (columns : List ColumnShape) (line : TextLine) (r : Result X CsvError) (before after : ℕ) → ReadsCsv view r (header_order dialect columns line) → after ≡ before
     → IfErr r (λ e. Counts many e before after)
 header_counts view many dialect columns line (Ok x) before after read same = tt
 header_counts view many dialect columns line (Err e) before after read same = counts_header many dialect columns line e before after read same

@@ -4,7 +4,7 @@ use Rattle.std.proofs.Common.{refl, sym, ap, ◌∙◌, append_assoc, inl, inr}
 use Rattle.table_model.specs.State.{Batch}
 use Rattle.table_model.specs.Table.{ColumnShape}
 use Rattle.table_model.specs.declared.refusal.Refusal.TheVariants.{Memory}
-use Rattle.csv_rows.specs.Line.{lines_of}
+use Rattle.csv_rows.specs.Line.{TextLine, lines_of}
 use Rattle.csv_rows.specs.LinesForm.{LinesForm}
 use Rattle.csv_rows.specs.LineReading.{FirstTooLong}
 use Rattle.csv_rows.specs.DialectForm.{DialectForm}
@@ -17,13 +17,13 @@ use Rattle.csv_rows.proofs.KnownFacts.{known_both, known_map, known_before, know
 use Rattle.csv_rows.proofs.RowFacts.{before_both, before_nothing, first_rows, first_fault, too_long, header_too_long}
 
 -- the next line
-abbrev pub Next : LinesForm → LinesForm → List ℕ → Option (List ℕ) → Option (List ℕ) → Type 0
+abbrev pub Next : LinesForm → LinesForm → TextLine → Option (List ℕ) → Option (List ℕ) → Type 0
 Next old new line a b = AsKnown (λ bytes rest. lines_of (old.pending ++ bytes) ≡ line ∷ lines_of (new.pending ++ rest)) a b
 
 abbrev Makes : DialectForm → List ColumnShape → List (Option ℕ) → LinesForm → LinesForm → Batch → Option (List ℕ) → Option (List ℕ) → Type 0
 Makes dialect columns order old new made a b = AsKnown (λ bytes rest. lines_to_come dialect columns order old bytes ≡ before_rows made (lines_to_come dialect columns order new rest)) a b
 
-pub line_read : (dialect : DialectForm) (columns : List ColumnShape) (order : List (Option ℕ)) (old new : LinesForm) (line : List ℕ) (made : Batch) (a b : Option (List ℕ)) → new.number ≡ suc old.number → Next old new line a b
+pub line_read : (dialect : DialectForm) (columns : List ColumnShape) (order : List (Option ℕ)) (old new : LinesForm) (line : TextLine) (made : Batch) (a b : Option (List ℕ)) → new.number ≡ suc old.number → Next old new line a b
     → line_rows dialect columns order new.number line ≡ Ok made → Makes dialect columns order old new made a b
 line_read dialect columns order old new line made a b more next e =
     known_map (λ bytes rest. lines_of (old.pending ++ bytes) ≡ line ∷ lines_of (new.pending ++ rest)) (λ bytes rest. lines_to_come dialect columns order old bytes ≡ before_rows made (lines_to_come dialect columns order new rest))
@@ -36,18 +36,18 @@ pub no_rows : (dialect : DialectForm) (columns : List ColumnShape) (order : List
     → Makes dialect columns order old new [] a b × NoLines dialect columns order new a b
 no_rows dialect columns order old new a b same none = (
   known_map (λ bytes rest. (lines_of (old.pending ++ bytes) ≡ []) × (lines_of (new.pending ++ rest) ≡ [])) (λ bytes rest. lines_to_come dialect columns order old bytes ≡ before_rows [] (lines_to_come dialect columns order new rest))
-      (λ x y p. ap (rows_from dialect columns order (suc old.number)) p.0 ∙ sym (ap (λ (lines : List (List ℕ)). before_rows [] (rows_from dialect columns order (suc new.number) lines)) p.1)) a b none,
+      (λ x y p. ap (rows_from dialect columns order (suc old.number)) p.0 ∙ sym (ap (λ (lines : List TextLine). before_rows [] (rows_from dialect columns order (suc new.number) lines)) p.1)) a b none,
   known_map (λ bytes rest. (lines_of (old.pending ++ bytes) ≡ []) × (lines_of (new.pending ++ rest) ≡ [])) (λ bytes rest. lines_to_come dialect columns order new rest ≡ Ok [])
       (λ x y p. ap (rows_from dialect columns order (suc new.number)) p.1) a b none,
 )
 
-refused_by : (dialect : DialectForm) (columns : List ColumnShape) (order : List (Option ℕ)) (old new : LinesForm) (line : List ℕ) (e : CsvError) (a b : Option (List ℕ)) → new.number ≡ suc old.number → Next old new line a b
+refused_by : (dialect : DialectForm) (columns : List ColumnShape) (order : List (Option ℕ)) (old new : LinesForm) (line : TextLine) (e : CsvError) (a b : Option (List ℕ)) → new.number ≡ suc old.number → Next old new line a b
     → line_rows dialect columns order new.number line ≡ Err e → AsKnown (λ bytes rest. lines_to_come dialect columns order old bytes ≡ Err e) a a
 refused_by dialect columns order old new line e a b more next fault =
     known_before (λ bytes rest. lines_of (old.pending ++ bytes) ≡ line ∷ lines_of (new.pending ++ rest)) (λ bytes rest. lines_to_come dialect columns order old bytes ≡ Err e)
     (λ x y p. ap (rows_from dialect columns order (suc old.number)) p ∙ first_fault dialect columns order (suc old.number) line (lines_of (new.pending ++ y)) e (ap (λ (n : ℕ). line_rows dialect columns order n line) (sym more) ∙ fault)) a b next
 
-pub line_refused : (dialect : DialectForm) (columns : List ColumnShape) (order : List (Option ℕ)) (old new : LinesForm) (line : List ℕ) (e : CsvError) (a b : Option (List ℕ)) → new.number ≡ suc old.number → Next old new line a b
+pub line_refused : (dialect : DialectForm) (columns : List ColumnShape) (order : List (Option ℕ)) (old new : LinesForm) (line : TextLine) (e : CsvError) (a b : Option (List ℕ)) → new.number ≡ suc old.number → Next old new line a b
     → (line_rows dialect columns order new.number line ≡ Err e) ⊎ (e ≡ Refused Memory) → RefusesLines dialect columns order old e a
 line_refused dialect columns order old new line (Refused r) a b more next fault = tt
 line_refused dialect columns order old new line (BadCsv n column) a b more next (inr lack) = cc
@@ -96,19 +96,19 @@ none_after dialect columns order first old new made a b c p q =
     (λ x y z f g. g) a b c p q
 
 -- the header
-pub header_read : (dialect : DialectForm) (columns : List ColumnShape) (order : List (Option ℕ)) (old new : LinesForm) (line : List ℕ) (a b : Option (List ℕ)) → Next old new line a b → header_order dialect columns line ≡ Ok order
+pub header_read : (dialect : DialectForm) (columns : List ColumnShape) (order : List (Option ℕ)) (old new : LinesForm) (line : TextLine) (a b : Option (List ℕ)) → Next old new line a b → header_order dialect columns line ≡ Ok order
     → AsKnown (λ bytes rest. header_rows dialect columns (lines_of (old.pending ++ bytes)) ≡ rows_from dialect columns order 2 (lines_of (new.pending ++ rest))) a b
 header_read dialect columns order old new line a b next e =
     known_map (λ bytes rest. lines_of (old.pending ++ bytes) ≡ line ∷ lines_of (new.pending ++ rest)) (λ bytes rest. header_rows dialect columns (lines_of (old.pending ++ bytes)) ≡ rows_from dialect columns order 2 (lines_of (new.pending ++ rest)))
     (λ x y p. ap (header_rows dialect columns) p ∙ ap (λ (r : Result (List (Option ℕ)) CsvError). r >>= (λ o. rows_from dialect columns o 2 (lines_of (new.pending ++ y)))) e) a b next
 
-header_by : (dialect : DialectForm) (columns : List ColumnShape) (old new : LinesForm) (line : List ℕ) (e : CsvError) (a b : Option (List ℕ)) → Next old new line a b → header_order dialect columns line ≡ Err e
+header_by : (dialect : DialectForm) (columns : List ColumnShape) (old new : LinesForm) (line : TextLine) (e : CsvError) (a b : Option (List ℕ)) → Next old new line a b → header_order dialect columns line ≡ Err e
     → AsKnown (λ bytes rest. header_rows dialect columns (lines_of (old.pending ++ bytes)) ≡ Err e) a a
 header_by dialect columns old new line e a b next fault =
     known_before (λ bytes rest. lines_of (old.pending ++ bytes) ≡ line ∷ lines_of (new.pending ++ rest)) (λ bytes rest. header_rows dialect columns (lines_of (old.pending ++ bytes)) ≡ Err e)
     (λ x y p. ap (header_rows dialect columns) p ∙ ap (λ (r : Result (List (Option ℕ)) CsvError). r >>= (λ o. rows_from dialect columns o 2 (lines_of (new.pending ++ y)))) fault) a b next
 
-pub header_refused : (dialect : DialectForm) (columns : List ColumnShape) (old new : LinesForm) (line : List ℕ) (e : CsvError) (a b : Option (List ℕ)) → Next old new line a b → (header_order dialect columns line ≡ Err e) ⊎ (e ≡ Refused Memory) → RefusesHeader dialect columns old e a
+pub header_refused : (dialect : DialectForm) (columns : List ColumnShape) (old new : LinesForm) (line : TextLine) (e : CsvError) (a b : Option (List ℕ)) → Next old new line a b → (header_order dialect columns line ≡ Err e) ⊎ (e ≡ Refused Memory) → RefusesHeader dialect columns old e a
 header_refused dialect columns old new line (Refused r) a b next fault = tt
 header_refused dialect columns old new line (BadCsv n column) a b next (inr lack) = cc
 header_refused dialect columns old new line (LineTooLong n) a b next (inr lack) = cc

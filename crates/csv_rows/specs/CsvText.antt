@@ -4,7 +4,7 @@ use Rattle.std.specs.List.{list_any, range_with_len}
 use Rattle.table_model.specs.State.{Cells, Batch}
 use Rattle.table_model.specs.Table.{Table, ColumnShape, has_name}
 use Rattle.csv_rows.specs.DialectForm.{DialectForm, usual}
-use Rattle.csv_rows.specs.Line.{line_limit, lines_of, unmarked}
+use Rattle.csv_rows.specs.Line.{line_limit, TextLine, lines_of, unmarked}
 use Rattle.csv_rows.specs.Field.{fields_of, unquoted, cell_in}
 use Rattle.csv_rows.specs.declared.error.CsvError.{CsvError}
 use Rattle.csv_rows.specs.declared.error.CsvError.TheVariants.{BadCsv, LineTooLong}
@@ -87,21 +87,33 @@ abbrev pub named_order : DialectForm → Option (List (Option ℕ)) → List Col
 named_order dialect None columns line = in_line 1 (order_from columns 1 [] (fields_of dialect.separator line)) >>= (λ places. Ok (each_of places))
 named_order dialect (Some order) columns line = unless_row order (in_line 1 (row_of dialect columns order line))
 
+-- whether a line may be cut off: it has no end, and the dialect needs one
+abbrev pub is_cut : DialectForm → TextLine → Bool
+is_cut dialect line = dialect.needs_ends && not line.has_end
+
+-- whether a line can be a header: it isn't cut off, it isn't empty, and it has as many fields as each line
+abbrev pub may_name : DialectForm → List ColumnShape → TextLine → Bool
+may_name dialect columns line = not (is_cut dialect line) && (not (length line.bytes == 0) && has_each dialect (width_of dialect.order columns) line.bytes)
+
 -- the order of the columns that a header, the first line, gives
-unfoldable pub header_order : DialectForm → List ColumnShape → List ℕ → Result (List (Option ℕ)) CsvError
+unfoldable pub header_order : DialectForm → List ColumnShape → TextLine → Result (List (Option ℕ)) CsvError
 header_order dialect columns line =
-    cond (nat_lt line_limit (length line)) (Err (LineTooLong 1))
-    (cond (not (length line == 0) && has_each dialect (width_of dialect.order columns) line) (named_order dialect dialect.order columns line) (Err (BadCsv 1 0)))
+    cond (nat_lt line_limit (length line.bytes)) (Err (LineTooLong 1))
+    (cond (may_name dialect columns line) (named_order dialect dialect.order columns line.bytes) (Err (BadCsv 1 0)))
 
 -- whether a line is passed over: it is empty, and lines have not one field alone
 abbrev pub is_passed : List (Option ℕ) → List ℕ → Bool
 is_passed order line = (length line == 0) && not (length order == 1)
 
+-- the row of a line that isn't too long, unless it is cut off, which is seen before its fields are
+abbrev pub uncut_row : DialectForm → List ColumnShape → List (Option ℕ) → TextLine → Result Cells ℕ
+uncut_row dialect columns order line = cond (is_cut dialect line) (Err 0) (row_of dialect columns order line.bytes)
+
 -- the rows that a line makes: one, or none where it is passed over
-unfoldable pub line_rows : DialectForm → List ColumnShape → List (Option ℕ) → ℕ → List ℕ → Result Batch CsvError
+unfoldable pub line_rows : DialectForm → List ColumnShape → List (Option ℕ) → ℕ → TextLine → Result Batch CsvError
 line_rows dialect columns order number line =
-    cond (nat_lt line_limit (length line)) (Err (LineTooLong number))
-    (cond (is_passed order line) (Ok []) (in_line number (row_of dialect columns order line) >>= (λ row. Ok (row ∷ []))))
+    cond (nat_lt line_limit (length line.bytes)) (Err (LineTooLong number))
+    (cond (is_passed order line.bytes) (Ok []) (in_line number (uncut_row dialect columns order line) >>= (λ row. Ok (row ∷ []))))
 
 -- rows before those that follow them
 abbrev pub before_rows : Batch → Result Batch CsvError → Result Batch CsvError
@@ -109,7 +121,7 @@ before_rows rows (Ok more) = Ok (rows ++ more)
 before_rows rows (Err e) = Err e
 
 -- the rows of lines, the first having this number, or the first fault
-abbrev pub rows_from : DialectForm → List ColumnShape → List (Option ℕ) → ℕ → List (List ℕ) → Result Batch CsvError
+abbrev pub rows_from : DialectForm → List ColumnShape → List (Option ℕ) → ℕ → List TextLine → Result Batch CsvError
 rows_from dialect columns order number [] = Ok []
 rows_from dialect columns order number (line ∷ lines) = line_rows dialect columns order number line >>= (λ rows. before_rows rows (rows_from dialect columns order (suc number) lines))
 
@@ -123,12 +135,12 @@ plain_order None columns = own_order columns
 plain_order (Some order) columns = order
 
 -- the rows of a header and the lines below it, or the first fault
-abbrev pub header_rows : DialectForm → List ColumnShape → List (List ℕ) → Result Batch CsvError
+abbrev pub header_rows : DialectForm → List ColumnShape → List TextLine → Result Batch CsvError
 header_rows dialect columns [] = Err (BadCsv 1 0)
 header_rows dialect columns (header ∷ lines) = header_order dialect columns header >>= (λ order. rows_from dialect columns order 2 lines)
 
 -- the rows of all lines, the first being a header if there is one
-abbrev pub lines_rows : DialectForm → Table → Bool → List (List ℕ) → Result Batch CsvError
+abbrev pub lines_rows : DialectForm → Table → Bool → List TextLine → Result Batch CsvError
 lines_rows dialect table true lines = header_rows dialect table.columns lines
 lines_rows dialect table false lines = rows_from dialect table.columns (plain_order dialect.order table.columns) 1 lines
 

@@ -1,5 +1,5 @@
 -- The lines of a text of comma-separated values: what its line feeds end, and what follows the last of them.
-use Rattle.std.specs.Prelude.{ℕ, ◌==◌, cond, List, [], ◌∷◌, length, Option, Some, None, option_map, option_and_then}
+use Rattle.std.specs.Prelude.{ℕ, Bool, true, false, ◌==◌, cond, List, [], ◌∷◌, length, Option, Some, None, option_map, option_and_then}
 use Rattle.table_model.specs.Pieces.{pieces, without}
 
 -- how many bytes a line may have, without its end
@@ -21,14 +21,31 @@ text_or None other = other
 abbrev pub without_return : List ℕ → List ℕ
 without_return piece = text_or (before_last 13 piece) piece
 
--- the lines of pieces between line feeds: what follows the last line feed is a line where it isn't empty
-abbrev pub lines_between : List (List ℕ) → List (List ℕ)
-lines_between [] = []
-lines_between (last ∷ []) = cond (length last == 0) [] (last ∷ [])
-lines_between (piece ∷ next ∷ pieces) = without_return piece ∷ lines_between (next ∷ pieces)
+-- A line of a text: its bytes without its end, and whether it has an end. Only the last line of a text can be without one.
+pub record TextLine : Type 0 where
+  pub bytes : List ℕ
+  pub has_end : Bool
 
--- the lines of a text, without their ends
-abbrev pub lines_of : List ℕ → List (List ℕ)
+-- a line of these bytes
+abbrev pub text_line : List ℕ → Bool → TextLine
+text_line bytes has_end = record { bytes = bytes; has_end = has_end }
+
+-- a line that a line feed ends
+abbrev pub ended : List ℕ → TextLine
+ended bytes = text_line bytes true
+
+-- a last line that no line feed ends
+abbrev pub unended : List ℕ → TextLine
+unended bytes = text_line bytes false
+
+-- the lines of pieces between line feeds: what follows the last line feed is a line where it isn't empty
+abbrev pub lines_between : List (List ℕ) → List TextLine
+lines_between [] = []
+lines_between (last ∷ []) = cond (length last == 0) [] (unended last ∷ [])
+lines_between (piece ∷ next ∷ pieces) = ended (without_return piece) ∷ lines_between (next ∷ pieces)
+
+-- the lines of a text
+abbrev pub lines_of : List ℕ → List TextLine
 lines_of text = lines_between (pieces 10 text)
 
 -- what follows a byte order mark at the head of a text

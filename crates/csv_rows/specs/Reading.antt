@@ -1,5 +1,5 @@
 -- What a reader of comma-separated values has read, and what is still to come of the text, where the bytes are known.
-use Rattle.std.specs.Prelude.{◌≡◌, ◌⊎◌, ℕ, suc, ◌+◌, ◌≤◌, ◌<◌, Bool, List, [], ◌++◌, length, Option, Some, None, Result, Ok, Err, OnOk, IfErr}
+use Rattle.std.specs.Prelude.{◌≡◌, ◌⊎◌, ℕ, suc, ◌+◌, ◌≤◌, ◌<◌, Bool, true, List, [], ◌++◌, length, Option, Some, None, Result, Ok, Err, OnOk, IfErr}
 use Rattle.table_model.specs.Counted.{one_more}
 use Rattle.table_model.specs.Faults.{read_limit}
 use Rattle.table_model.specs.State.{Batch}
@@ -13,21 +13,22 @@ use Rattle.csv_rows.specs.declared.error.CsvError.{CsvError}
 use Rattle.csv_rows.specs.declared.error.CsvError.TheVariants.{Refused}
 
 -- A reader of CSV: the table, the dialect of the text, whether the first line is a header, for each field of a line the place of its
--- column, or none where it is passed over, once that is known, the line that was read last, how many lines were read, the bytes that came
--- and weren't taken yet, and how many bytes came in all.
+-- column, or none where it is passed over, once that is known, the line that was read last, whether it has an end, how many lines were
+-- read, the bytes that came and weren't taken yet, and how many bytes came in all.
 pub record Reading : Type 0 where
   pub table : Table
   pub dialect : DialectForm
   pub has_header : Bool
   pub order : Option (List (Option ℕ))
   pub line : List ℕ
+  pub has_end : Bool
   pub number : ℕ
   pub pending : List ℕ
   pub given : ℕ
 
 -- a reader of a text in a dialect that has read nothing
 abbrev pub at_start_in : DialectForm → Table → Bool → Reading
-at_start_in dialect table has_header = record { table = table; dialect = dialect; has_header = has_header; order = None; line = []; number = 0; pending = []; given = 0 }
+at_start_in dialect table has_header = record { table = table; dialect = dialect; has_header = has_header; order = None; line = []; has_end = true; number = 0; pending = []; given = 0 }
 
 -- a reader of a text in the usual dialect that has read nothing
 abbrev pub at_start : Table → Bool → Reading

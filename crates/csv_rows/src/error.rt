@@ -12,7 +12,7 @@ use table_model::Refusal;
 #[derive(Clone, Copy, Debug, PartialEq, Eq)]
 pub enum CsvError {
     /// A field that is no value of its column, or no column's name, or names one for the second time; column 0 is a wrong
-    /// number of fields.
+    /// number of fields, or a line without the end that the dialect needs.
     BadCsv { line: u64, column: u64 },
     /// A line of more than 1,048,576 bytes, without its end.
     LineTooLong { line: u64 },

@@ -4,28 +4,34 @@ ghost use Rattle.table_model.specs.Table.{has_name};
 ghost use Rattle.csv_rows.specs.Field.{fields_of, unquoted};
 ghost use Rattle.csv_rows.specs.Line.{line_limit};
 ghost use Rattle.csv_rows.specs.CsvText.{place_named, new_place, in_line, order_from, unless_row, named_order, row_of, header_order};
+ghost use Rattle.csv_rows.specs.LinesForm.{last_read};
 ghost use Rattle.csv_rows.specs.Outcome.{ReadsCsv};
 
 use crate::bytes::{count_fields, first_field, unquoted};
 use crate::dialect::Dialect;
 use crate::error::CsvError;
+use crate::lines::Lines;
 use crate::order::Order;
 use crate::row::read_row;
 use std::alloc::Global;
 use table_model::{Column, Refusal, same_word};
 
-/// The order that a header gives. It has as many fields as each line. It names all columns, unless the dialect says what the fields are;
+/// The order that a header gives, which is the line that was read last. It has as many fields as each line. It names all columns, unless the dialect says what the fields are;
 /// then it is any line that is no row.
 #[tactic(auto, unfolding(crate::specs::CsvText::header_order))]
 pub fn order_of_header(
     alloc: Global,
     dialect: &Dialect,
     columns: &[Column],
-    line: &[u8],
+    lines: &Lines,
 ) -> Result<Order, CsvError>
-    requires { length line.now ≤ line_limit }
-    ensures { ReadsCsv (λ order. order) result (header_order dialect.now columns.now line.now) }
+    requires { length lines.now.line ≤ line_limit }
+    ensures { ReadsCsv (λ order. order) result (header_order dialect.now columns.now (last_read lines.now)) }
 {
+    let line = lines.line();
+    if dialect.is_cut(lines.has_end()) {
+        return Err(CsvError::BadCsv { line: 1, column: 0 });
+    }
     if line.is_empty() || count_fields(line, dialect.separator()) != dialect.width(columns) {
         return Err(CsvError::BadCsv { line: 1, column: 0 });
     }

@@ -1,5 +1,5 @@
 //! The lines of a text, while it is read.
-ghost use Rattle.std.specs.Prelude.{◌≡◌, ◌⊎◌, ◌==◌, nat_le, nat_lt, ◌+◌, ◌-◌, ◌≤◌, ◌<◌, [], ◌++◌, suc, length, take, drop, position, IfOk, IfErr, OnOk, OnErr};
+ghost use Rattle.std.specs.Prelude.{◌≡◌, ◌⊎◌, true, false, ◌==◌, nat_le, nat_lt, ◌+◌, ◌-◌, ◌≤◌, ◌<◌, [], ◌++◌, suc, length, take, drop, position, IfOk, IfErr, OnOk, OnErr};
 ghost use Rattle.std.specs.Io.KnownBytes.{IsAtEnd, Consumes, Keeps};
 ghost use Rattle.table_model.specs.Counted.{one_more};
 ghost use Rattle.table_model.specs.Faults.{read_limit};
@@ -111,6 +111,7 @@ pub struct Lines {
     from: usize,
     to: usize,
     line: Vec<u8>,
+    has_end: bool,
     number: u64,
     given: u64,
 }
@@ -121,7 +122,7 @@ impl Model for Lines {
 
     ghost Value = { LinesForm };
 
-    ghost view = { λ l. record { at = l.from; pending = drop l.from (take l.to l.buffer.items); line = l.line.items; number = l.number; given = l.given; spare = l.given + l.from - (l.number + l.to) } };
+    ghost view = { λ l. record { at = l.from; pending = drop l.from (take l.to l.buffer.items); line = l.line.items; has_end = l.has_end; number = l.number; given = l.given; spare = l.given + l.from - (l.number + l.to) } };
 
     ghost invariant = { λ l. (l.from ≤ l.to) × (l.to ≤ length l.buffer.items) × (length l.buffer.items ≡ 65536) × (l.number + l.to ≤ l.given + l.from) × (l.given ≤ 2 ^ 48 + 65536) };
 }
@@ -137,6 +138,7 @@ impl Lines {
             from: 0,
             to: 0,
             line: Vec::new(alloc),
+            has_end: true,
             number: 0,
             given: 0,
         })
@@ -147,6 +149,13 @@ impl Lines {
         ensures { result.now ≡ self.now.line }
     {
         self.line.as_slice()
+    }
+
+    /// Whether the line that was read last has an end.
+    pub fn has_end(&self) -> bool
+        ensures { result ≡ self.now.has_end }
+    {
+        self.has_end
     }
 
     /// How many bytes came in all.
@@ -242,6 +251,7 @@ impl Lines {
         match taken {
             Taken::Line(count) => {
                 self.from += count;
+                self.has_end = true;
                 self.number += 1;
             }
             Taken::Part => {
@@ -290,6 +300,7 @@ impl Lines {
         if self.line.len() > LINE_LIMIT {
             return Found::TooLong;
         }
+        self.has_end = false;
         self.number += 1;
         Found::Line
     }

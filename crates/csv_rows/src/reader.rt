@@ -4,9 +4,9 @@ ghost use Rattle.std.specs.Io.KnownBytes.{IsAtEnd};
 ghost use Rattle.table_model.specs.Faults.{read_limit};
 ghost use Rattle.table_model.specs.Table.{AreRows, row_limit};
 ghost use Rattle.csv_rows.specs.Reading.{at_start, at_start_in, to_come, AsKnown, Gave, NothingToCome, Refuses, Came, Counts, ReadsOnward};
-ghost use Rattle.csv_rows.specs.CsvText.{header_rows, rows_from};
+ghost use Rattle.csv_rows.specs.CsvText.{is_cut, header_rows, rows_from};
 ghost use Rattle.csv_rows.specs.FaultyField.{field_at, faulty_field, shown, column_of};
-ghost use Rattle.csv_rows.specs.Line.{lines_of};
+ghost use Rattle.csv_rows.specs.Line.{lines_of, text_line};
 ghost use Rattle.csv_rows.specs.RowReading.{ReadsOn, RefusesLines, RefusesHeader, NoLines};
 
 use crate::bytes::first_field;
@@ -43,7 +43,7 @@ impl Model for CsvReader {
 
     ghost Value = { Reading };
 
-    ghost view = { λ c. record { table = c.schema; dialect = c.dialect; has_header = c.has_header; order = c.order; line = c.lines.line; number = c.lines.number; pending = c.lines.pending; given = c.lines.given } };
+    ghost view = { λ c. record { table = c.schema; dialect = c.dialect; has_header = c.has_header; order = c.order; line = c.lines.line; has_end = c.lines.has_end; number = c.lines.number; pending = c.lines.pending; given = c.lines.given } };
 
     ghost invariant = { λ c. IfNone c.order ((c.lines.at ≡ 0) × (length c.lines.pending < 3) × (c.lines.number ≡ 0)) };
 }
@@ -114,6 +114,13 @@ impl CsvReader {
         ensures { result.now ≡ self.now.line }
     {
         self.lines.line()
+    }
+
+    /// Whether the line that was read last is refused because it has no end, which the dialect needs: after `BadCsv` with column 0.
+    pub fn is_cut(&self) -> bool
+        ensures { result ≡ is_cut self.now.dialect (text_line self.now.line self.now.has_end) }
+    {
+        self.dialect.is_cut(self.lines.has_end())
     }
 
     /// The first 40 bytes of a field of the line that was read last, by its column, counted from 1: after `BadCsv` those of the
@@ -219,7 +226,7 @@ fn read_order<R: Read>(
     ensures reads { ReadsOnward R.remaining Counts lines.old.given lines.new.given reader.old reader.new result }
 {
     match lines.advance(reader)? {
-        Found::Line => order_of_header(alloc, dialect, columns, lines.line()),
+        Found::Line => order_of_header(alloc, dialect, columns, lines),
         Found::TooLong => Err(CsvError::LineTooLong { line: 1 }),
         Found::End => Err(CsvError::BadCsv { line: 1, column: 0 }),
     }
@@ -249,15 +256,7 @@ fn read_line<R: Read>(
 {
     match lines.advance(reader)? {
         Found::Line => {
-            push_row(
-                dialect,
-                columns,
-                order,
-                lines.number(),
-                lines.line(),
-                cells,
-                rows,
-            )?;
+            push_row(dialect, columns, order, lines, cells, rows)?;
             Ok(true)
         }
         Found::TooLong => Err(CsvError::LineTooLong {

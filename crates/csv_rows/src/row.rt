@@ -3,12 +3,14 @@ ghost use Rattle.std.specs.Prelude.{◌≡◌, ◌+◌, ◌<◌, ◌≤◌, leng
 ghost use Rattle.csv_rows.specs.Field.{fields_of, fields_left};
 ghost use Rattle.csv_rows.specs.Line.{line_limit};
 ghost use Rattle.csv_rows.specs.CsvText.{cell_at, with_field, filled, in_line, row_of, line_rows};
+ghost use Rattle.csv_rows.specs.LinesForm.{last_read};
 ghost use Rattle.csv_rows.specs.Outcome.{ReadsCsv, ReadsBehind};
 
 use crate::bytes::{count_fields, first_field};
 use crate::dialect::Dialect;
 use crate::error::CsvError;
 use crate::field::cell_in;
+use crate::lines::Lines;
 use table_model::{Column, Rows};
 
 /// The cell that a field is below the column of this place, if it is one.
@@ -122,26 +124,32 @@ pub fn read_row(
     }
 }
 
-/// Adds the row of a line with this number after the rows, unless the line is skipped. The row is read into `cells`, in place of
+/// Adds the row of the line that was read last after the rows, unless the line is skipped. The row is read into `cells`, in place of
 /// what is there.
 #[tactic(auto, unfolding(crate::specs::CsvText::line_rows))]
 pub fn push_row(
     dialect: &Dialect,
     columns: &[Column],
     order: &[Option<usize>],
-    number: u64,
-    line: &[u8],
+    lines: &Lines,
     cells: &mut Vec<Option<i128>>,
     rows: &mut Rows,
 ) -> Result<(), CsvError>
-    requires { length line.now ≤ line_limit }
-    ensures rows { ReadsBehind rows.old result rows.new (line_rows dialect.now columns.now order.now number line.now) }
+    requires { length lines.now.line ≤ line_limit }
+    ensures rows { ReadsBehind rows.old result rows.new (line_rows dialect.now columns.now order.now lines.now.number (last_read lines.now)) }
     ensures len { length rows.new ≤ length rows.old + 1 }
 {
+    let line = lines.line();
     if line.is_empty() && order.len() != 1 {
         return Ok(());
     }
-    read_row(dialect, columns, order, number, line, cells)?;
+    if dialect.is_cut(lines.has_end()) {
+        return Err(CsvError::BadCsv {
+            line: lines.number(),
+            column: 0,
+        });
+    }
+    read_row(dialect, columns, order, lines.number(), line, cells)?;
     rows.push_row(cells.as_slice())?;
     Ok(())
 }

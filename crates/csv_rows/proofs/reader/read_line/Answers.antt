@@ -2,6 +2,7 @@ use Rattle.std.proofs.Common.{◌+◌, arith, rules, subst}
 use Rattle.std.proofs.lemmas.Result.{err_from_is_err_and}
 use Rattle.csv_rows.specs.declared.lines.Found.{Found}
 use Rattle.csv_rows.specs.LineReading.{Finds}
+use Rattle.csv_rows.specs.LinesForm.{last_read}
 use Rattle.csv_rows.proofs.RowFacts.{behind_fits, counts_line}
 use Rattle.csv_rows.proofs.Steps.{line_too_long}
 use Rattle.csv_rows.proofs.reader.read_line.Goals as goal
@@ -13,15 +14,15 @@ returns-in_err-push_row-in-Line-clause-reads g c = record {
   kept = search rules;
   counts =
       let p = err_from_is_err_and c.from_residual-in_err-push_row-in-Line.result c.from_residual-in_err-push_row-in-Line.ensures.1 in
-      rw (p.1, p.2) (counts_line _ c.args.dialect.now c.args.columns.now c.args.order.now c.number.result c.line.result.now c.in_err-push_row-in-Line.field-0.0 c.args.reader.now.1 c.advance.new.reader.1
+      rw (p.1, p.2) (counts_line _ c.args.dialect.now c.args.columns.now c.args.order.now c.advance.new.self.number (last_read c.advance.new.self) c.in_err-push_row-in-Line.field-0.0 c.args.reader.now.1 c.advance.new.reader.1
       c.in_err-push_row-in-Line.ensures.rows c.in_ok-advance.ensures.reads.kept);
 }
 
 pub returns-in_ok-push_row-in-Line-clause-fits : goal.returns-in_ok-push_row-in-Line-clause-fits
 returns-in_ok-push_row-in-Line-clause-fits g c = λ h.
-    behind_fits c.args.dialect.now c.args.columns.now c.args.order.now c.number.result c.line.result.now c.args.rows.now c.push_row.new.rows c.in_ok-push_row-in-Line.ensures.rows.0 c.in_ok-push_row-in-Line.ensures.rows.1 c.in_ok-push_row-in-Line.ensures.rows.2 h
+    behind_fits c.args.dialect.now c.args.columns.now c.args.order.now c.advance.new.self.number (last_read c.advance.new.self) c.args.rows.now c.push_row.new.rows c.in_ok-push_row-in-Line.ensures.rows.0 c.in_ok-push_row-in-Line.ensures.rows.1 c.in_ok-push_row-in-Line.ensures.rows.2 h
 
 pub returns-in-TooLong-clause-fault : goal.returns-in-TooLong-clause-fault
 returns-in-TooLong-clause-fault g c =
     let found = subst (λ (f : Found). Finds f c.args.lines.now c.advance.new.self (g.R.Read.remaining c.args.reader.now.0) (g.R.Read.remaining c.advance.new.reader.0)) c.in-TooLong.is c.in_ok-advance.ensures.found in
-    line_too_long c.args.dialect.now c.args.columns.now c.args.order.now c.args.lines.now (c.number-in-TooLong.result + 1) (g.R.Read.remaining c.args.reader.now.0) (g.R.Read.remaining c.advance.new.reader.0) (omega (arith, c.number-in-TooLong.ensures, found.0)) found.1
+    line_too_long c.args.dialect.now c.args.columns.now c.args.order.now c.args.lines.now (c.number.result + 1) (g.R.Read.remaining c.args.reader.now.0) (g.R.Read.remaining c.advance.new.reader.0) (omega (arith, c.number.ensures, found.0)) found.1

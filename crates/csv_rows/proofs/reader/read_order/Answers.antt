@@ -1,6 +1,7 @@
 use Rattle.std.proofs.Common.{List, Option, ℕ, rules, subst}
 use Rattle.csv_rows.specs.declared.lines.Found.{Found}
 use Rattle.csv_rows.specs.LineReading.{Finds}
+use Rattle.csv_rows.specs.LinesForm.{last_read}
 use Rattle.csv_rows.proofs.RowFacts.{header_counts}
 use Rattle.csv_rows.proofs.Steps.{header_long}
 use Rattle.csv_rows.proofs.reader.read_order.Goals as goal
@@ -10,7 +11,7 @@ returns-in-Line-clause-reads g c = record {
   came = c.in_ok-advance.ensures.reads.came;
   within = search rules;
   kept = search rules;
-  counts = header_counts (λ (order : List (Option ℕ)). order) _ c.args.dialect.now c.args.columns.now c.line.result.now c.order_of_header.result c.args.reader.now.1 c.advance.new.reader.1 c.order_of_header.ensures c.in_ok-advance.ensures.reads.kept;
+  counts = header_counts (λ (order : List (Option ℕ)). order) _ c.args.dialect.now c.args.columns.now (last_read c.advance.new.self) c.order_of_header.result c.args.reader.now.1 c.advance.new.reader.1 c.order_of_header.ensures c.in_ok-advance.ensures.reads.kept;
 }
 
 pub returns-in-TooLong-clause-fault : goal.returns-in-TooLong-clause-fault
