@@ -13,6 +13,7 @@ use crate::files::{exported, opened};
 use crate::message::{Message, offer_at, summary_at};
 use crate::reply::Reply;
 use crate::step::Step;
+use query_eval::HashKey;
 use replica_store::Store;
 use segment_core::Coding;
 use std::alloc::Global;
@@ -270,7 +271,7 @@ impl Cluster {
         ensures { ActsOn self.now (Step.Query replica sql.now) result self.now }
     {
         let place = self.place(replica)?;
-        let answer = ask(alloc, &self.stores[place], sql)?;
+        let answer = ask(alloc, &self.stores[place], HashKey::fixed(), sql)?;
         Ok(Reply::Answered(answer))
     }
 

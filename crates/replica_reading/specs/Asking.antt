@@ -27,9 +27,17 @@ WritesText (Err other) old new before after made = (made ≡ Err other) × (new 
 
 -- ---- the texts
 
+-- how many batches and maximal ranges of deleted rows there are, and how the line ends
+abbrev pub checked_line : ℕ × ℕ → List ℕ → List ℕ
+checked_line found ending = codes "ok batches=" ++ (decimal found.0 ++ (codes " ranges=" ++ (decimal found.1 ++ ending)))
+
 -- check: how many batches and maximal ranges of deleted rows there are
 abbrev pub checked_text : ℕ × ℕ → List ℕ
-checked_text found = codes "ok batches=" ++ (decimal found.0 ++ (codes " ranges=" ++ (decimal found.1 ++ codes "\n")))
+checked_text found = checked_line found (codes "\n")
+
+-- check with a digest: how the line ends
+abbrev pub digest_ending : List ℕ → List ℕ
+digest_ending digest = codes " digest=" ++ (digest ++ codes "\n")
 
 -- the same of a replica
 abbrev pub counts_of : Replica → ℕ × ℕ

@@ -2,6 +2,7 @@ pub mod Asking
 pub mod ColumnFigures
 pub mod ColumnTexts
 pub mod Counts
+pub mod Digests
 pub mod DumpColumnLaws
 pub mod DumpRooms
 pub mod Dumps

@@ -45,7 +45,7 @@ pub fn answer_text(
     ensures read { Reads (λ text. text.items) result (answered_in format file.now.replica sql.now) }
     ensures refused { IfErr result (λ e. IsTrue (is_refusal_of_query e)) }
 {
-    let answer = ask(alloc, file.store(), sql)?;
+    let answer = ask(alloc, file.store(), file.hash_key(), sql)?;
     Ok(format_answer(alloc, &answer, format)?)
 }
 

@@ -6,6 +6,7 @@ ghost use Rattle.column_file.specs.Input.{Judges, ReadsWhole, is_refusal_of_read
 ghost use Rattle.replica_reading.specs.Held.{held_in};
 
 use column_file::open;
+use query_eval::HashKey;
 use replica_store::Store;
 use std::alloc::Global;
 use std::io::Read;
@@ -13,10 +14,12 @@ use std::marker::Model;
 use table_model::{Counted, Origin, Refusal, Schema};
 
 /// What a canonical file holds, read and judged once, to be asked as often as one likes. Contracts see the store that it is: the
-/// replica, and the segments of its batches, which are canonical. Whose replica it is does not matter.
+/// replica, and the segments of its batches, which are canonical. Whose replica it is does not matter, and neither does the key of the
+/// hashes by which queries find groups.
 #[derive(Drop)]
 pub struct OpenFile {
     store: Store,
+    hash_key: HashKey,
 }
 
 impl Model for OpenFile {
@@ -46,7 +49,7 @@ impl OpenFile {
         ensures reads { ReadsWhole R.remaining is_refusal_of_reading reader.old reader.new result }
     {
         let store = open(alloc, reader, Origin(1))?;
-        Ok(OpenFile { store })
+        Ok(OpenFile::from_store(store))
     }
 
     /// The same of a store whose segments are canonical. It takes no memory.
@@ -54,7 +57,25 @@ impl OpenFile {
         requires { AreCanonicalOf store.replica.schema store.replica.state.batches store.segments }
         ensures { result ≡ store }
     {
-        OpenFile { store }
+        OpenFile {
+            store,
+            hash_key: HashKey::fixed(),
+        }
+    }
+
+    /// The same file, whose queries find groups by hashes of a key.
+    pub fn with_hash_key(self, hash_key: HashKey) -> OpenFile
+        ensures { result ≡ self }
+    {
+        OpenFile {
+            store: self.store,
+            hash_key,
+        }
+    }
+
+    /// The key of the hashes by which queries find groups. It is the fixed one unless another was given.
+    pub fn hash_key(&self) -> HashKey {
+        self.hash_key
     }
 
     /// The store that the file holds.
