@@ -3,23 +3,29 @@ ghost use Rattle.std.specs.Prelude.{IfErr};
 ghost use Rattle.command_line.specs.Outcome.{IsUnread};
 
 use crate::fault::Fault;
+use crate::import_form::import_command;
+use crate::misplaced::{Misplaced, Options};
 use crate::partial_answer_forms::{combine_command, finish_command, partial_command};
 use crate::report_forms::{
     check_command, dump_command, inspect_command, offer_command, summary_command,
 };
-use crate::requests::{CsvForm, Queries, Request, Source};
+use crate::requests::{
+    Apply, Check, Combine, Create, CsvForm, Delete, DeleteRows, Dump, Finish, Forget, Import,
+    Inspect, Merge, Offer, Pack, Partial, Queries, Query, Request, Run, Source, Spread, Summary,
+};
 use crate::spread_form::spread_command;
-use crate::words;
+use crate::{program_help, words};
 use answer_formats::Format;
 use clap::error::ErrorKind;
 use clap::{Arg, ArgAction, ArgMatches, Command};
+use refusal_sentences::Quoted;
 use std::alloc::{AllocError, Global};
 use table_model::{BatchName, RowName};
 
 /// The program's version.
-const VERSION: &str = "0.9.0";
+const VERSION: &str = "0.10.0";
 
-/// What is shown below the help of the program and that of `lanes run`.
+/// What is shown below the help of `lanes run`.
 const SCRIPT_HELP: &str =
     "A script has lines such as these, and each has a reply:\n  table 2 T A SMALLINT\n  append 1 (7),(NULL)\n  query 1 SELECT COUNT(*) FROM T\nAll lines and replies are in docs/FORMATS.md, and examples/ has scripts to run.";
 
@@ -35,9 +41,11 @@ const MERGE_HELP: &str =
 const PACK_HELP: &str =
     "Each change of a folder adds a part. Run this each hour, as by cron, so that there are few: small parts are joined into one, and are\nthen removed. What the folder holds stays the same, and other commands may run meanwhile.";
 
-/// What is shown below the help of `lanes import`.
-const IMPORT_HELP: &str =
-    "Rows become batches of 65,536. Their names are drawn at random, or begin at O.N: a load that arrives twice under one name is\nheld once. Of several CSVs all are imported or none, one after another, under names that count on.";
+/// What is said of a word that begins with a hyphen, if a name is wanted.
+const HYPHENED_NAME: &str = ": write a name that begins with - as ./-name, or put -- before it";
+
+/// What is said of a word that begins with a hyphen, if a query is wanted.
+const NO_QUERY: &str = ": no query begins with -";
 
 /// What is wrong with a separator.
 const SEPARATOR_FAULT: &str =
@@ -47,12 +55,9 @@ const SEPARATOR_FAULT: &str =
 const FORGET_HELP: &str =
     "Pull from the other sites first. Deletions stay, and a batch's name stays used up for ever: docs/COMMANDS.md says when to forget.\nIn a folder all parts are joined into one, and other commands may run meanwhile.";
 
-/// The name that `lanes partial` had up to 0.5. It is read for one release more.
-const FORMER_PARTIAL: &str = "part";
-
 /// A command.
 #[derive(Clone, Copy, Debug, PartialEq, Eq)]
-enum Verb {
+pub(crate) enum Verb {
     Run,
     Create,
     Import,
@@ -101,7 +106,11 @@ const VERBS: [Verb; 19] = [
 pub fn read_request<'a>(alloc: Global, words: &'a [String]) -> Result<Request<'a>, Fault>
     ensures { IfErr result IsUnread }
 {
-    let matches = commands_asked(alloc, words)?.try_get_matches_from(words)?;
+    check_words(alloc, words)?;
+    if program_help::is_asked(words) {
+        return Err(help_asked(alloc, words));
+    }
+    let matches = commands(alloc)?.try_get_matches_from(words)?;
     let Some((name, given)) = matches.subcommand() else {
         return Err(fault(
             commands(alloc)?,
@@ -119,17 +128,48 @@ pub fn read_request<'a>(alloc: Global, words: &'a [String]) -> Result<Request<'a
     }
 }
 
-/// The program's commands, with the former name of one if that is asked for: no help and no fault names it.
-fn commands_asked<'a>(alloc: Global, words: &[String]) -> Result<Command<'a>, AllocError> {
-    let command = commands(alloc)?;
-    if words
-        .get(1)
-        .is_some_and(|word| word.as_str() == FORMER_PARTIAL)
-    {
-        let former = Command::new(alloc, FORMER_PARTIAL).bin_name("lanes partial")?;
-        return command.subcommand(partial_command(alloc, former)?);
+/// Refuses a word behind a command's name that begins with a hyphen, if it is no option, and no condition is wanted there.
+fn check_words(alloc: Global, words: &[String]) -> Result<(), Fault>
+    ensures { IfErr result IsUnread }
+{
+    let [_, name, rest @ ..] = words else {
+        return Ok(());
+    };
+    let Some(verb) = Verb::named(name.as_str()) else {
+        return Ok(());
+    };
+    let command = verb.command(alloc)?;
+    match Misplaced::first(&command, rest, verb.place_of_condition()) {
+        Some(misplaced) => Err(verb.fault_of_word(alloc, &command, misplaced)),
+        None => Ok(()),
     }
-    Ok(command)
+}
+
+/// The help of the program, as a command line that asks for it has it.
+fn help_asked(alloc: Global, words: &[String]) -> Fault
+    ensures { IsUnread result }
+{
+    match shown_help(alloc, words) {
+        Err(fault) => fault,
+        Ok(()) => match commands(alloc) {
+            Ok(command) => fault(
+                command,
+                ErrorKind::MissingSubcommand,
+                "a command is missing",
+            ),
+            Err(lacking) => Fault::from(lacking),
+        },
+    }
+}
+
+/// The same, as `clap` answers it.
+fn shown_help(alloc: Global, words: &[String]) -> Result<(), Fault>
+    ensures { IfErr result IsUnread }
+{
+    let text = program_help::text(alloc)?;
+    let command = commands(alloc)?.override_help(text.as_str());
+    let _ = command.try_get_matches_from(words)?;
+    Ok(())
 }
 
 /// The program's commands.
@@ -138,21 +178,11 @@ pub(crate) fn commands<'a>(alloc: Global) -> Result<Command<'a>, AllocError> {
         .bin_name("lanes")?
         .about("A replicated column store for one table of nullable integer columns")
         .version(VERSION)
-        .after_help(SCRIPT_HELP)
         .subcommand_required(true);
     for verb in VERBS {
         command = command.subcommand(verb.command(alloc)?)?;
     }
     Ok(command)
-}
-
-/// What is said of an option that comes too late.
-const LATE_OPTION: &str =
-    "options go before FILE: after it, a word that begins with -- is not an option";
-
-/// Whether one of these words behind the first is written like an option. The first is taken as it is.
-fn has_late_option(words: &[&str]) -> bool {
-    words.iter().skip(1).any(|word| word.starts_with("--"))
 }
 
 /// A fault of the command line in what `clap` takes for texts, with the usage of a command.
@@ -167,7 +197,7 @@ fn fault(mut command: Command<'_>, kind: ErrorKind, message: &str) -> Fault
 
 impl Verb {
     /// The command's word.
-    fn name<'a>(self) -> &'a str {
+    pub(crate) fn name<'a>(self) -> &'a str {
         match self {
             Verb::Run => "run",
             Verb::Create => "create",
@@ -193,9 +223,6 @@ impl Verb {
 
     /// The command of this word.
     fn named(name: &str) -> Option<Verb> {
-        if name == FORMER_PARTIAL {
-            return Some(Verb::Partial);
-        }
         for verb in VERBS {
             if verb.name() == name {
                 return Some(verb);
@@ -204,8 +231,41 @@ impl Verb {
         None
     }
 
+    /// The place of a condition among the words that are no options, if the command takes one there.
+    fn place_of_condition(self) -> Option<usize> {
+        match self {
+            Verb::Delete => Some(1),
+            _ => None,
+        }
+    }
+
+    /// The place of the first query among the words that are no options, if the command takes queries.
+    fn place_of_query(self) -> Option<usize> {
+        match self {
+            Verb::Query | Verb::Partial => Some(1),
+            _ => None,
+        }
+    }
+
+    /// The fault of a word that begins with a hyphen and is no option of the command.
+    fn fault_of_word(self, alloc: Global, command: &Command<'_>, misplaced: Misplaced<'_>) -> Fault
+        ensures { IsUnread result }
+    {
+        let name = self.name();
+        let word = Quoted(misplaced.word.as_bytes());
+        let options = Options(command);
+        let advice = match self.place_of_query() {
+            Some(place) if misplaced.place >= place => NO_QUERY,
+            _ => HYPHENED_NAME,
+        };
+        match format!(in alloc; "lanes {name} has no option {word}, only {options}{advice}") {
+            Ok(message) => self.fault_of_kind(alloc, ErrorKind::UnknownArgument, message.as_str()),
+            Err(lacking) => Fault::from(lacking),
+        }
+    }
+
     /// How the command is read.
-    fn command<'a>(self, alloc: Global) -> Result<Command<'a>, AllocError> {
+    pub(crate) fn command<'a>(self, alloc: Global) -> Result<Command<'a>, AllocError> {
         let name = self.name();
         let called = format!(in alloc; "lanes {name}")?;
         let command = Command::new(alloc, name).bin_name(called.as_str())?;
@@ -240,56 +300,57 @@ impl Verb {
             Verb::Run => Ok(run_request(given)),
             Verb::Create => self.create_request(alloc, given),
             Verb::Import => self.import_request(alloc, given),
-            Verb::Delete => Ok(Request::Delete {
+            Verb::Delete => Ok(Request::Delete(Delete {
                 file: text_of(given, "FILE"),
                 condition: text_of(given, "COND"),
                 is_quiet: given.get_flag("quiet"),
-            }),
+            })),
             Verb::DeleteRows => self.delete_rows_request(alloc, given),
-            Verb::Forget => Ok(Request::Forget {
+            Verb::Forget => Ok(Request::Forget(Forget {
                 file: text_of(given, "FILE"),
                 is_quiet: given.get_flag("quiet"),
-            }),
+            })),
             Verb::Query => self.query_request(alloc, given),
-            Verb::Partial => Ok(Request::Partial {
+            Verb::Partial => Ok(Request::Partial(Partial {
                 file: Source::named(text_of(given, "FILE")),
                 sql: text_of(given, "SQL"),
-            }),
+            })),
             Verb::Combine => self.combine_request(alloc, given),
             Verb::Finish => self.finish_request(alloc, given),
-            Verb::Dump => Ok(Request::Dump {
+            Verb::Dump => Ok(Request::Dump(Dump {
                 file: text_of(given, "FILE"),
                 has_names: given.get_flag("names"),
                 condition: text_of(given, "where"),
                 columns: text_of(given, "columns"),
-            }),
+            })),
             Verb::Inspect => self.inspect_request(alloc, given),
-            Verb::Summary => Ok(Request::Summary {
+            Verb::Summary => Ok(Request::Summary(Summary {
                 file: text_of(given, "FILE"),
-            }),
-            Verb::Offer => Ok(Request::Offer {
+            })),
+            Verb::Offer => Ok(Request::Offer(Offer {
                 file: text_of(given, "FILE"),
                 summary: Source::named(text_of(given, "SUMMARY")),
-            }),
+            })),
             Verb::Apply => self.apply_request(alloc, given),
-            Verb::Check => Ok(Request::Check {
+            Verb::Check => Ok(Request::Check(Check {
                 file: text_of(given, "FILE"),
-            }),
-            Verb::Merge => Ok(Request::Merge {
+                has_digest: given.get_flag("digest"),
+            })),
+            Verb::Merge => Ok(Request::Merge(Merge {
                 out: text_of(given, "OUT"),
                 files: texts_of(alloc, given, "IN")?,
                 is_quiet: given.get_flag("quiet"),
-            }),
-            Verb::Spread => Ok(Request::Spread {
+            })),
+            Verb::Spread => Ok(Request::Spread(Spread {
                 file: text_of(given, "FILE"),
                 outs: texts_of(alloc, given, "OUT")?,
                 is_quiet: given.get_flag("quiet"),
-            }),
-            Verb::Pack => Ok(Request::Pack {
+            })),
+            Verb::Pack => Ok(Request::Pack(Pack {
                 folder: text_of(given, "FOLDER"),
                 is_all: given.get_flag("all"),
                 is_quiet: given.get_flag("quiet"),
-            }),
+            })),
         }
     }
 
@@ -297,8 +358,15 @@ impl Verb {
     fn fault(self, alloc: Global, message: &str) -> Fault
         ensures { IsUnread result }
     {
+        self.fault_of_kind(alloc, ErrorKind::ValueValidation, message)
+    }
+
+    /// A fault of the command's words.
+    fn fault_of_kind(self, alloc: Global, kind: ErrorKind, message: &str) -> Fault
+        ensures { IsUnread result }
+    {
         match self.command(alloc) {
-            Ok(command) => fault(command, ErrorKind::ValueValidation, message),
+            Ok(command) => fault(command, kind, message),
             Err(lacking) => Fault::from(lacking),
         }
     }
@@ -309,12 +377,12 @@ impl Verb {
     {
         let columns = given.get_strs("COLUMNS").unwrap_or(&[]);
         match words::columns(alloc, columns)? {
-            Some(columns) => Ok(Request::Create {
+            Some(columns) => Ok(Request::Create(Create {
                 file: text_of(given, "FILE"),
                 table: text_of(given, "TABLE"),
                 columns,
                 is_quiet: given.get_flag("quiet"),
-            }),
+            })),
             None => Err(self.fault(
                 alloc,
                 "each column is a name and its type, TINYINT, SMALLINT, INTEGER or BIGINT",
@@ -332,20 +400,17 @@ impl Verb {
         };
         let form = self.csv_form(alloc, given)?;
         let names = given.get_strs("CSV").unwrap_or(&[]);
-        if has_late_option(names) {
-            return Err(self.fault(alloc, LATE_OPTION));
-        }
         let csvs = words::sources(alloc, names)?;
         if words::inputs(csvs.as_slice()) > 1 {
             return Err(self.fault(alloc, "only one CSV can be -"));
         }
-        Ok(Request::Import {
+        Ok(Request::Import(Import {
             file: text_of(given, "FILE"),
             csvs,
             first,
             form,
             is_quiet: given.get_flag("quiet"),
-        })
+        }))
     }
 
     /// How the texts of an import are written.
@@ -413,13 +478,13 @@ impl Verb {
         let batch = self.batch_name(alloc, text_of(given, "O.N"))?;
         let ordinal = self.ordinal(alloc, text_of(given, "FIRST"))?;
         let last = self.ordinal(alloc, text_of(given, "LAST"))?;
-        Ok(Request::DeleteRows {
+        Ok(Request::DeleteRows(DeleteRows {
             file: text_of(given, "FILE"),
             first: RowName { batch, ordinal },
             last,
             is_held: given.get_flag("held"),
             is_quiet: given.get_flag("quiet"),
-        })
+        }))
     }
 
     /// The form of answers in an argument.
@@ -438,9 +503,6 @@ impl Verb {
     {
         let format = self.format(alloc, given)?;
         let texts = texts_of(alloc, given, "SQL")?;
-        if has_late_option(texts.as_slice()) {
-            return Err(self.fault(alloc, LATE_OPTION));
-        }
         let queries = match texts.as_slice() {
             ["-"] => Queries::Lines,
             given if given.contains(&"-") => {
@@ -448,11 +510,11 @@ impl Verb {
             }
             _ => Queries::Texts(texts),
         };
-        Ok(Request::Query {
+        Ok(Request::Query(Query {
             file: text_of(given, "FILE"),
             queries,
             format,
-        })
+        }))
     }
 
     /// What `lanes combine` asks for.
@@ -468,7 +530,7 @@ impl Verb {
         if words::inputs(partials.as_slice()) > 1 {
             return Err(self.fault(alloc, "only one PARTIAL can be -"));
         }
-        Ok(Request::Combine { partials })
+        Ok(Request::Combine(Combine { partials }))
     }
 
     /// What `lanes finish` asks for.
@@ -481,11 +543,11 @@ impl Verb {
         if words::inputs(expected.as_slice()).saturating_add(words::inputs(&[partial])) > 1 {
             return Err(self.fault(alloc, "only one of SUMMARY and PARTIAL can be -"));
         }
-        Ok(Request::Finish {
+        Ok(Request::Finish(Finish {
             partial,
             expected,
             format,
-        })
+        }))
     }
 
     /// What `lanes inspect` asks for.
@@ -496,12 +558,18 @@ impl Verb {
     ) -> Result<Request<'a>, Fault>
         ensures { IfErr result IsUnread }
     {
+        let has_batches = given.get_flag("batches");
+        let has_digest = given.get_flag("digest");
+        if has_batches && has_digest {
+            return Err(self.fault(alloc, "--digest does not go with --batches"));
+        }
         match words::report_form(given.get_str("format").unwrap_or("text")) {
-            Some(form) => Ok(Request::Inspect {
+            Some(form) => Ok(Request::Inspect(Inspect {
                 file: text_of(given, "FILE"),
-                has_batches: given.get_flag("batches"),
+                has_batches,
+                has_digest,
                 form,
-            }),
+            })),
             None => Err(self.fault(alloc, "FORMAT is text or json")),
         }
     }
@@ -515,11 +583,11 @@ impl Verb {
         if words::inputs(offers.as_slice()) > 1 {
             return Err(self.fault(alloc, "only one OFFER can be -"));
         }
-        Ok(Request::Apply {
+        Ok(Request::Apply(Apply {
             file: text_of(given, "FILE"),
             offers,
             is_quiet: given.get_flag("quiet"),
-        })
+        }))
     }
 }
 
@@ -547,28 +615,27 @@ fn run_request<'a>(given: &ArgMatches<'a>) -> Request<'a> {
         Some(name) => Source::named(name),
         None => Source::Input,
     };
-    Request::Run {
+    Request::Run(Run {
         source,
         is_explained: given.get_flag("explain"),
-    }
+    })
 }
 
-/// A word that is required, taken as it is.
+/// A word that is required.
 pub(crate) fn word<'a>(alloc: Global, name: &'a str, help: &'a str) -> Arg<'a> {
-    Arg::new(alloc, name)
-        .help(help)
-        .required(true)
-        .allow_hyphen_values(true)
+    Arg::new(alloc, name).help(help).required(true)
 }
 
-/// The first word of a command on a file. All that follows is taken as it is: options come before it.
-pub(crate) fn first_word<'a>(alloc: Global, name: &'a str, help: &'a str) -> Arg<'a> {
-    word(alloc, name, help).trailing_var_arg(true)
+/// Words of which one is required. Options may come between them.
+pub(crate) fn several_words<'a>(alloc: Global, name: &'a str, help: &'a str) -> Arg<'a> {
+    word(alloc, name, help)
+        .num_args(1..)
+        .action(ArgAction::Append)
 }
 
 /// The file that a command reads or changes.
 pub(crate) fn file<'a>(alloc: Global) -> Arg<'a> {
-    first_word(alloc, "FILE", "The file, or the folder of parts")
+    word(alloc, "FILE", "The file, or the folder of parts")
 }
 
 /// An option that is there or not.
@@ -585,17 +652,16 @@ pub(crate) fn format<'a>(alloc: Global, help: &'a str) -> Arg<'a> {
         .long("format")
         .value_name("FORMAT")
         .help(help)
+        .allow_hyphen_values(true)
 }
 
 /// The option of commands that change a file, to say nothing when all is well.
 pub(crate) fn quiet<'a>(alloc: Global) -> Arg<'a> {
-    flag(alloc, "quiet", "Print nothing if all is well")
+    flag(alloc, "quiet", "Print nothing on success")
 }
 
 fn run_command<'a>(alloc: Global, command: Command<'a>) -> Result<Command<'a>, AllocError> {
-    let script = Arg::new(alloc, "SCRIPT").help(
-        "The script's file, or - for standard input, which is read too if none is named",
-    );
+    let script = Arg::new(alloc, "SCRIPT").help("The script (default: standard input)");
     let explain = flag(
         alloc,
         "explain",
@@ -609,67 +675,22 @@ fn run_command<'a>(alloc: Global, command: Command<'a>) -> Result<Command<'a>, A
 }
 
 fn create_command<'a>(alloc: Global, command: Command<'a>) -> Result<Command<'a>, AllocError> {
-    let columns = word(
+    let columns = several_words(
         alloc,
         "COLUMNS",
         "The columns' names and types: TINYINT, SMALLINT, INTEGER or BIGINT",
     );
     command
-        .about("Creates the file of an empty table, or a folder of parts")
+        .about("Creates an empty table: a file, or a folder if the name ends in /")
         .after_help(CREATE_HELP)
         .arg(quiet(alloc))?
-        .arg(first_word(
+        .arg(word(
             alloc,
             "FILE",
             "The file that is created, or the folder if the name ends in /",
         ))?
         .arg(word(alloc, "TABLE", "The table's name"))?
-        .arg(columns.value_name("COL TYPE").num_args(1..))
-}
-
-fn import_command<'a>(alloc: Global, command: Command<'a>) -> Result<Command<'a>, AllocError> {
-    let batch = Arg::new(alloc, "batch")
-        .long("batch")
-        .value_name("O.N")
-        .help("The name of the first batch, instead of one drawn at random")
-        .allow_hyphen_values(true);
-    let header = flag(
-        alloc,
-        "no-header",
-        "The first line has values, not names of columns",
-    );
-    let separator = Arg::new(alloc, "separator")
-        .long("separator")
-        .value_name("C")
-        .help("The character between two fields, instead of a comma; \\t is a tab")
-        .allow_hyphen_values(true);
-    let null_word = Arg::new(alloc, "null")
-        .long("null")
-        .value_name("WORD")
-        .help("A further word for a null, besides an empty field, NULL and \\N")
-        .allow_hyphen_values(true);
-    let columns = Arg::new(alloc, "columns")
-        .long("columns")
-        .value_name("NAMES")
-        .help("What the fields are, as A,B,-: columns, and - for a field that is passed over")
-        .allow_hyphen_values(true);
-    let whole = flag(
-        alloc,
-        "whole-lines",
-        "Refuse a CSV whose last line has no end: the command that writes it may have failed",
-    );
-    command
-        .about("Inserts rows of comma-separated values")
-        .after_help(IMPORT_HELP)
-        .arg(batch)?
-        .arg(header)?
-        .arg(separator)?
-        .arg(null_word)?
-        .arg(columns)?
-        .arg(whole)?
-        .arg(quiet(alloc))?
-        .arg(file(alloc))?
-        .arg(word(alloc, "CSV", "The files of values, or - for standard input").num_args(1..))
+        .arg(columns.value_name("COL TYPE"))
 }
 
 fn delete_command<'a>(alloc: Global, command: Command<'a>) -> Result<Command<'a>, AllocError> {
@@ -677,12 +698,12 @@ fn delete_command<'a>(alloc: Global, command: Command<'a>) -> Result<Command<'a>
         .about("Deletes the rows for which a condition is true")
         .arg(quiet(alloc))?
         .arg(file(alloc))?
-        .arg(word(alloc, "COND", "The condition, as in WHERE"))
+        .arg(word(alloc, "COND", "The condition, as in WHERE").allow_hyphen_values(true))
 }
 
 fn delete_rows_command<'a>(alloc: Global, command: Command<'a>) -> Result<Command<'a>, AllocError> {
     command
-        .about("Deletes rows by their names, whether they are there or arrive later")
+        .about("Deletes rows by their names, also rows that arrive later")
         .arg(flag(
             alloc,
             "held",
@@ -708,14 +729,16 @@ fn query_command<'a>(alloc: Global, command: Command<'a>) -> Result<Command<'a>,
         .about(
             "Writes the answers of queries, one after another; docs/SQL.md describes the language",
         )
-        .arg(format(alloc, "The form of the answers: text, csv, json or table"))?
+        .arg(format(
+            alloc,
+            "The form of the answers: text, csv, json or table (default: text)",
+        ))?
         .arg(file(alloc))?
-        .arg(word(
+        .arg(several_words(
             alloc,
             "SQL",
             "The queries, or - for lines of standard input",
-        )
-        .num_args(1..))
+        ))
 }
 
 fn apply_command<'a>(alloc: Global, command: Command<'a>) -> Result<Command<'a>, AllocError> {
@@ -723,16 +746,16 @@ fn apply_command<'a>(alloc: Global, command: Command<'a>) -> Result<Command<'a>,
         .about("Applies offers, or other files of the same table, to a file")
         .arg(quiet(alloc))?
         .arg(file(alloc))?
-        .arg(word(alloc, "OFFER", "The offers' files, or - for standard input").num_args(1..))
+        .arg(several_words(alloc, "OFFER", "The offers' files, or - for standard input"))
 }
 
 fn merge_command<'a>(alloc: Global, command: Command<'a>) -> Result<Command<'a>, AllocError> {
     command
-        .about("Writes the canonical file of all that some files hold")
+        .about("Merges files and folders into one file")
         .after_help(MERGE_HELP)
         .arg(quiet(alloc))?
-        .arg(first_word(alloc, "OUT", "The file that is written"))?
-        .arg(word(alloc, "IN", "The files that are merged, in this order").num_args(1..))
+        .arg(word(alloc, "OUT", "The file that is written"))?
+        .arg(several_words(alloc, "IN", "The files that are merged, in this order"))
 }
 
 fn pack_command<'a>(alloc: Global, command: Command<'a>) -> Result<Command<'a>, AllocError> {
@@ -741,5 +764,5 @@ fn pack_command<'a>(alloc: Global, command: Command<'a>) -> Result<Command<'a>, 
         .after_help(PACK_HELP)
         .arg(flag(alloc, "all", "Join all parts into one"))?
         .arg(quiet(alloc))?
-        .arg(first_word(alloc, "FOLDER", "The folder of parts"))
+        .arg(word(alloc, "FOLDER", "The folder of parts"))
 }

@@ -9,9 +9,13 @@ use crate::commands::commands;
 use clap::error::ErrorKind;
 use refusal_sentences::CommandRefusal;
 use std::alloc::{AllocError, Global};
+use std::io::{self, Write};
 use std::process::ExitCode;
 use table_model::Refusal;
 use thiserror::Error;
+
+/// How many bytes are written at once: what a pipe takes without mixing it with what others write there.
+const AT_ONCE: usize = 4096;
 
 /// A fault of the command line, which asks for help too, or a refusal.
 #[derive(Debug, Drop, Error)]
@@ -90,28 +94,55 @@ fn of_a_folder(alloc: Global, advice: &str) -> Result<clap::Error, AllocError> {
 
 impl Fault {
     /// Prints the fault on standard error, and help on standard output, and answers the status: 2 for a fault of the command
-    /// line, 1 for a refusal, 0 for help. Help that can't be written is refused as `WriteFault`.
-    pub fn report<R: Print + Eprint>(&self, rt: &R) -> ExitCode
+    /// line, 1 for a refusal, 0 for help. Below a refusal comes what is said of it. Help that can't be written is refused as
+    /// `WriteFault`, of which nothing is said if the reader has gone.
+    pub fn report<R: Print + Eprint + AllocGlobal, N: Write>(
+        &self,
+        rt: &R,
+        notes: &mut N,
+        said: &str,
+    ) -> ExitCode
         ensures { EndsWith self.now (exit_status result) }
     {
         let Fault::CommandLine(error) = self else {
-            return self.refuse(rt);
+            return self.refuse(rt.alloc(), notes, said);
         };
         let printed = error.print(rt);
         if error.use_stderr() {
-            ExitCode::from(2)
-        } else if printed.is_err() {
-            Fault::from(Refusal::WriteFault).refuse(rt)
-        } else {
-            ExitCode::SUCCESS
+            return ExitCode::from(2);
+        }
+        match printed {
+            Ok(()) => ExitCode::SUCCESS,
+            Err(error) if error.kind() == io::ErrorKind::BrokenPipe => ExitCode::FAILURE,
+            Err(_) => Fault::from(Refusal::WriteFault).refuse(rt.alloc(), notes, ""),
         }
     }
 
-    /// Prints the fault on standard error, with the status of a refusal.
-    fn refuse<R: Eprint>(&self, rt: &R) -> ExitCode
+    /// Writes the fault and what is said of it to the notes, at once and in at most 4,096 bytes, so that it does not mix with what other
+    /// commands write there; with the status of a refusal. If there is no memory for one text it is written in pieces.
+    fn refuse<N: Write>(&self, alloc: Global, notes: &mut N, said: &str) -> ExitCode
         ensures { exit_status result ≡ 1 }
     {
-        let _ = rt.eprintln(self);
+        let _ = match format!(in alloc; "{self}\n{said}") {
+            Ok(text) => notes.write_all(front_of(text.as_str()).as_bytes()),
+            Err(_) => self.write_pieces(notes, said),
+        };
         ExitCode::FAILURE
     }
+
+    /// Writes the fault and what is said of it in pieces, which takes no memory.
+    fn write_pieces<N: Write>(&self, notes: &mut N, said: &str) -> io::Result<()> {
+        writeln!(notes, "{self}")?;
+        notes.write_all(front_of(said).as_bytes())
+    }
+}
+
+/// As much of a text as is written at once: its first whole characters.
+fn front_of(text: &str) -> &str {
+    for end in (0..=AT_ONCE.min(text.len())).rev() {
+        if let Some(front) = text.get(..end) {
+            return front;
+        }
+    }
+    text
 }

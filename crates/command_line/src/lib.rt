@@ -3,8 +3,11 @@
 
 mod commands;
 mod fault;
+mod import_form;
+mod misplaced;
 mod partial_answer_forms;
 mod program_arguments;
+mod program_help;
 mod report_forms;
 mod requests;
 mod spread_form;
@@ -14,4 +17,7 @@ pub use answer_formats::{Format, ReportForm};
 pub use commands::read_request;
 pub use fault::{Fault, not_for_a_folder, not_for_a_terminal};
 pub use program_arguments::arguments;
-pub use requests::{CsvForm, Queries, Request, Source};
+pub use requests::{
+    Apply, Check, Combine, Create, CsvForm, Delete, DeleteRows, Dump, Finish, Forget, Import,
+    Inspect, Merge, Offer, Pack, Partial, Queries, Query, Request, Run, Source, Spread, Summary,
+};

@@ -1,6 +1,6 @@
 //! How the commands on partial answers are read by `clap`.
 
-use crate::commands::{first_word, format, word};
+use crate::commands::{format, several_words, word};
 use clap::{Arg, ArgAction, Command};
 use std::alloc::{AllocError, Global};
 
@@ -22,11 +22,9 @@ pub(crate) fn partial_command<'a>(
     command: Command<'a>,
 ) -> Result<Command<'a>, AllocError> {
     command
-        .about(
-            "Writes what a file gives to the answer of a query over many files, for lanes combine",
-        )
+        .about("Computes a file's partial answer to a query over many files")
         .after_help(PARTIAL_HELP)
-        .arg(first_word(
+        .arg(word(
             alloc,
             "FILE",
             "The file, or the folder of parts, or - for standard input",
@@ -39,7 +37,7 @@ pub(crate) fn combine_command<'a>(
     alloc: Global,
     command: Command<'a>,
 ) -> Result<Command<'a>, AllocError> {
-    let partials = first_word(
+    let partials = several_words(
         alloc,
         "PARTIAL",
         "The partial answers that are combined, or - for standard input",
@@ -47,7 +45,7 @@ pub(crate) fn combine_command<'a>(
     command
         .about("Combines the partial answers of several files, for lanes finish")
         .after_help(COMBINE_HELP)
-        .arg(partials.num_args(1..))
+        .arg(partials)
 }
 
 /// How `lanes finish` is read.
@@ -60,15 +58,18 @@ pub(crate) fn finish_command<'a>(
         .value_name("SUMMARY")
         .action(ArgAction::Append)
         .help(
-            "Answer only if each batch that this summary names was counted, or - for standard input",
+            "Answer only if every batch in SUMMARY was counted (- is standard input; may be repeated)",
         )
         .allow_hyphen_values(true);
     command
-        .about("Writes the answer of the query that a partial answer is of")
+        .about("Turns a partial answer into the answer")
         .after_help(FINISH_HELP)
         .arg(expect)?
-        .arg(format(alloc, "The form of the answer: text, csv, json or table"))?
-        .arg(first_word(
+        .arg(format(
+            alloc,
+            "The form of the answer: text, csv, json or table (default: text)",
+        ))?
+        .arg(word(
             alloc,
             "PARTIAL",
             "The partial answer, or - for standard input",

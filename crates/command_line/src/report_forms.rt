@@ -1,6 +1,6 @@
 //! How the commands that read a file and tell of it are read by `clap`.
 
-use crate::commands::{file, first_word, flag, format, word};
+use crate::commands::{file, flag, format, word};
 use clap::{Arg, Command};
 use std::alloc::{AllocError, Global};
 
@@ -26,7 +26,7 @@ pub(crate) fn dump_command<'a>(
     let columns = Arg::new(alloc, "columns")
         .long("columns")
         .value_name("NAMES")
-        .help("Only these columns, in this order, with a comma between each two")
+        .help("Only these columns, in this order, comma-separated")
         .allow_hyphen_values(true);
     command
         .about("Writes the rows as comma-separated values")
@@ -34,6 +34,15 @@ pub(crate) fn dump_command<'a>(
         .arg(condition)?
         .arg(columns)?
         .arg(file(alloc))
+}
+
+/// The option that asks for the digest of what is held.
+fn digest<'a>(alloc: Global) -> Arg<'a> {
+    flag(
+        alloc,
+        "digest",
+        "Also print the digest of what is held: replicas with one digest hold the same",
+    )
 }
 
 /// How `lanes inspect` is read.
@@ -50,8 +59,12 @@ pub(crate) fn inspect_command<'a>(
         .about("Writes what a file holds and how its columns are coded")
         .after_help(INSPECT_HELP)
         .arg(batches)?
-        .arg(format(alloc, "The form of the report: text or json"))?
-        .arg(first_word(
+        .arg(digest(alloc))?
+        .arg(format(
+            alloc,
+            "The form of the report: text or json (default: text)",
+        ))?
+        .arg(word(
             alloc,
             "FILE",
             "The file, or the folder of parts, or a partial answer or a summary",
@@ -92,5 +105,6 @@ pub(crate) fn check_command<'a>(
         .about(
             "Says whether a file is in canonical form, and how many batches and ranges of deletions it has",
         )
+        .arg(digest(alloc))?
         .arg(file(alloc))
 }

@@ -1,6 +1,6 @@
 //! How `lanes spread` is read by `clap`.
 
-use crate::commands::{first_word, quiet, word};
+use crate::commands::{quiet, several_words, word};
 use clap::Command;
 use std::alloc::{AllocError, Global};
 
@@ -17,6 +17,6 @@ pub(crate) fn spread_command<'a>(
         .about("Spreads what a file holds over new files, which share no batch")
         .after_help(SPREAD_HELP)
         .arg(quiet(alloc))?
-        .arg(first_word(alloc, "FILE", "The file, or the folder of parts"))?
-        .arg(word(alloc, "OUT", "The files that are made").num_args(1..))
+        .arg(word(alloc, "FILE", "The file, or the folder of parts"))?
+        .arg(several_words(alloc, "OUT", "The files that are made"))
 }

@@ -35,67 +35,76 @@ fn asked(alloc: Global, words: &[&str]) -> Result<String, AllocError> {
 }
 
 const REQUESTS: [(&[&str], &str); 22] = [
-    (&["run"], "Run { source: Input, is_explained: false }"),
-    (&["run", "-"], "Run { source: Input, is_explained: false }"),
+    (&["run"], "Run(Run { source: Input, is_explained: false })"),
+    (
+        &["run", "-"],
+        "Run(Run { source: Input, is_explained: false })",
+    ),
     (
         &["run", "--explain", "s"],
-        "Run { source: File(\"s\"), is_explained: true }",
+        "Run(Run { source: File(\"s\"), is_explained: true })",
     ),
-    (&["check", "t"], "Check { file: \"t\" }"),
-    (&["check", "-"], "Check { file: \"-\" }"),
+    (
+        &["check", "t"],
+        "Check(Check { file: \"t\", has_digest: false })",
+    ),
+    (
+        &["check", "-", "--digest"],
+        "Check(Check { file: \"-\", has_digest: true })",
+    ),
     (
         &["merge", "out", "a", "b", "c"],
-        "Merge { out: \"out\", files: [\"a\", \"b\", \"c\"], is_quiet: false }",
+        "Merge(Merge { out: \"out\", files: [\"a\", \"b\", \"c\"], is_quiet: false })",
     ),
     (
         &["spread", "t", "a", "b/"],
-        "Spread { file: \"t\", outs: [\"a\", \"b/\"], is_quiet: false }",
+        "Spread(Spread { file: \"t\", outs: [\"a\", \"b/\"], is_quiet: false })",
     ),
     (
         &["spread", "--quiet", "t", "-"],
-        "Spread { file: \"t\", outs: [\"-\"], is_quiet: true }",
+        "Spread(Spread { file: \"t\", outs: [\"-\"], is_quiet: true })",
     ),
     (
-        &["merge", "-", "--x", "-b", "--help"],
-        "Merge { out: \"-\", files: [\"--x\", \"-b\", \"--help\"], is_quiet: false }",
+        &["merge", "--", "-", "--x", "-b", "--help"],
+        "Merge(Merge { out: \"-\", files: [\"--x\", \"-b\", \"--help\"], is_quiet: false })",
     ),
     (
         &["query", "t", "A", "B", "C"],
-        "Query { file: \"t\", queries: Texts([\"A\", \"B\", \"C\"]), format: Text }",
+        "Query(Query { file: \"t\", queries: Texts([\"A\", \"B\", \"C\"]), format: Text })",
     ),
     (
-        &["query", "--format", "json", "t", "--format", "csv"],
-        "Query { file: \"t\", queries: Texts([\"--format\", \"csv\"]), format: Json }",
+        &["query", "t", "A", "--format", "json", "B"],
+        "Query(Query { file: \"t\", queries: Texts([\"A\", \"B\"]), format: Json })",
     ),
     (
-        &["query", "t", "--format"],
-        "Query { file: \"t\", queries: Texts([\"--format\"]), format: Text }",
+        &["query", "t", "--", "--format"],
+        "Query(Query { file: \"t\", queries: Texts([\"--format\"]), format: Text })",
     ),
     (
-        &["query", "--format=csv", "t", "-x"],
-        "Query { file: \"t\", queries: Texts([\"-x\"]), format: Csv }",
+        &["query", "--format=csv", "t", "--", "-x"],
+        "Query(Query { file: \"t\", queries: Texts([\"-x\"]), format: Csv })",
     ),
     (
         &["query", "--format", "table", "t", "-"],
-        "Query { file: \"t\", queries: Lines, format: Table }",
+        "Query(Query { file: \"t\", queries: Lines, format: Table })",
     ),
     (
         &[
             "create", "f", "t", "a", "smallint", "b", "TinyInt", "c", "BIGINT",
         ],
-        "Create { file: \"f\", table: \"t\", columns: [(\"a\", SmallInt), (\"b\", TinyInt), (\"c\", BigInt)], is_quiet: false }",
+        "Create(Create { file: \"f\", table: \"t\", columns: [(\"a\", SmallInt), (\"b\", TinyInt), (\"c\", BigInt)], is_quiet: false })",
     ),
     (
         &["import", "f", "-"],
-        "Import { file: \"f\", csvs: [Input], first: None, form: CsvForm { has_header: true, separator: 44, null_word: None, columns: None, is_whole: false }, is_quiet: false }",
+        "Import(Import { file: \"f\", csvs: [Input], first: None, form: CsvForm { has_header: true, separator: 44, null_word: None, columns: None, is_whole: false }, is_quiet: false })",
     ),
     (
-        &["import", "--quiet", "f", "c", "-", "-d"],
-        "Import { file: \"f\", csvs: [File(\"c\"), Input, File(\"-d\")], first: None, form: CsvForm { has_header: true, separator: 44, null_word: None, columns: None, is_whole: false }, is_quiet: true }",
+        &["import", "f", "c", "--quiet", "-", "--", "-d"],
+        "Import(Import { file: \"f\", csvs: [File(\"c\"), Input, File(\"-d\")], first: None, form: CsvForm { has_header: true, separator: 44, null_word: None, columns: None, is_whole: false }, is_quiet: true })",
     ),
     (
         &["import", "--separator", "\\t", "--null", "-", "f", "c"],
-        "Import { file: \"f\", csvs: [File(\"c\")], first: None, form: CsvForm { has_header: true, separator: 9, null_word: Some(\"-\"), columns: None, is_whole: false }, is_quiet: false }",
+        "Import(Import { file: \"f\", csvs: [File(\"c\")], first: None, form: CsvForm { has_header: true, separator: 9, null_word: Some(\"-\"), columns: None, is_whole: false }, is_quiet: false })",
     ),
     (
         &[
@@ -107,19 +116,19 @@ const REQUESTS: [(&[&str], &str); 22] = [
             "f",
             "c",
         ],
-        "Import { file: \"f\", csvs: [File(\"c\")], first: None, form: CsvForm { has_header: false, separator: 59, null_word: Some(\"\"), columns: None, is_whole: false }, is_quiet: false }",
+        "Import(Import { file: \"f\", csvs: [File(\"c\")], first: None, form: CsvForm { has_header: false, separator: 59, null_word: Some(\"\"), columns: None, is_whole: false }, is_quiet: false })",
     ),
     (
         &["import", "--separator", "\t", "--null", "9a", "f", "c"],
-        "Import { file: \"f\", csvs: [File(\"c\")], first: None, form: CsvForm { has_header: true, separator: 9, null_word: Some(\"9a\"), columns: None, is_whole: false }, is_quiet: false }",
+        "Import(Import { file: \"f\", csvs: [File(\"c\")], first: None, form: CsvForm { has_header: true, separator: 9, null_word: Some(\"9a\"), columns: None, is_whole: false }, is_quiet: false })",
     ),
     (
         &["import", "--columns", "A,-,b", "f", "c"],
-        "Import { file: \"f\", csvs: [File(\"c\")], first: None, form: CsvForm { has_header: true, separator: 44, null_word: None, columns: Some(\"A,-,b\"), is_whole: false }, is_quiet: false }",
+        "Import(Import { file: \"f\", csvs: [File(\"c\")], first: None, form: CsvForm { has_header: true, separator: 44, null_word: None, columns: Some(\"A,-,b\"), is_whole: false }, is_quiet: false })",
     ),
     (
         &["import", "--columns", "", "f", "c"],
-        "Import { file: \"f\", csvs: [File(\"c\")], first: None, form: CsvForm { has_header: true, separator: 44, null_word: None, columns: None, is_whole: false }, is_quiet: false }",
+        "Import(Import { file: \"f\", csvs: [File(\"c\")], first: None, form: CsvForm { has_header: true, separator: 44, null_word: None, columns: None, is_whole: false }, is_quiet: false })",
     ),
 ];
 
@@ -132,31 +141,31 @@ const MORE_REQUESTS: [(&[&str], &str); 31] = [
             "f",
             "c",
         ],
-        "Import { file: \"f\", csvs: [File(\"c\")], first: None, form: CsvForm { has_header: true, separator: 44, null_word: Some(\"0000000000000000000000000000001\"), columns: None, is_whole: false }, is_quiet: false }",
+        "Import(Import { file: \"f\", csvs: [File(\"c\")], first: None, form: CsvForm { has_header: true, separator: 44, null_word: Some(\"0000000000000000000000000000001\"), columns: None, is_whole: false }, is_quiet: false })",
     ),
     (
         &["import", "--null", "\"5\"", "f", "c"],
-        "Import { file: \"f\", csvs: [File(\"c\")], first: None, form: CsvForm { has_header: true, separator: 44, null_word: Some(\"\\\"5\\\"\"), columns: None, is_whole: false }, is_quiet: false }",
+        "Import(Import { file: \"f\", csvs: [File(\"c\")], first: None, form: CsvForm { has_header: true, separator: 44, null_word: Some(\"\\\"5\\\"\"), columns: None, is_whole: false }, is_quiet: false })",
     ),
     (
         &["import", "--null", "--", "f", "c"],
-        "Import { file: \"f\", csvs: [File(\"c\")], first: None, form: CsvForm { has_header: true, separator: 44, null_word: Some(\"--\"), columns: None, is_whole: false }, is_quiet: false }",
+        "Import(Import { file: \"f\", csvs: [File(\"c\")], first: None, form: CsvForm { has_header: true, separator: 44, null_word: Some(\"--\"), columns: None, is_whole: false }, is_quiet: false })",
     ),
     (
         &["merge", "--quiet", "o", "a"],
-        "Merge { out: \"o\", files: [\"a\"], is_quiet: true }",
+        "Merge(Merge { out: \"o\", files: [\"a\"], is_quiet: true })",
     ),
     (
         &["apply", "--quiet", "o", "a"],
-        "Apply { file: \"o\", offers: [File(\"a\")], is_quiet: true }",
+        "Apply(Apply { file: \"o\", offers: [File(\"a\")], is_quiet: true })",
     ),
     (
         &["create", "--quiet", "f", "t", "a", "BIGINT"],
-        "Create { file: \"f\", table: \"t\", columns: [(\"a\", BigInt)], is_quiet: true }",
+        "Create(Create { file: \"f\", table: \"t\", columns: [(\"a\", BigInt)], is_quiet: true })",
     ),
     (
         &["delete", "--quiet", "f", "A = 1"],
-        "Delete { file: \"f\", condition: \"A = 1\", is_quiet: true }",
+        "Delete(Delete { file: \"f\", condition: \"A = 1\", is_quiet: true })",
     ),
     (
         &[
@@ -164,90 +173,97 @@ const MORE_REQUESTS: [(&[&str], &str); 31] = [
             "--no-header",
             "--batch",
             "0000000007.0",
+            "--",
             "-f",
             "--batch",
         ],
-        "Import { file: \"-f\", csvs: [File(\"--batch\")], first: Some(BatchName { origin: Origin(7), number: Number(0) }), form: CsvForm { has_header: false, separator: 44, null_word: None, columns: None, is_whole: false }, is_quiet: false }",
+        "Import(Import { file: \"-f\", csvs: [File(\"--batch\")], first: Some(BatchName { origin: Origin(7), number: Number(0) }), form: CsvForm { has_header: false, separator: 44, null_word: None, columns: None, is_whole: false }, is_quiet: false })",
     ),
     (
         &["delete", "f", "-1 = A"],
-        "Delete { file: \"f\", condition: \"-1 = A\", is_quiet: false }",
+        "Delete(Delete { file: \"f\", condition: \"-1 = A\", is_quiet: false })",
     ),
     (
         &["delete-rows", "--quiet", "f", "1.2", "00000", "65535"],
-        "DeleteRows { file: \"f\", first: RowName { batch: BatchName { origin: Origin(1), number: Number(2) }, ordinal: 0 }, last: 65535, is_held: false, is_quiet: true }",
+        "DeleteRows(DeleteRows { file: \"f\", first: RowName { batch: BatchName { origin: Origin(1), number: Number(2) }, ordinal: 0 }, last: 65535, is_held: false, is_quiet: true })",
     ),
     (
         &["delete-rows", "--held", "f", "1.2", "1", "3"],
-        "DeleteRows { file: \"f\", first: RowName { batch: BatchName { origin: Origin(1), number: Number(2) }, ordinal: 1 }, last: 3, is_held: true, is_quiet: false }",
+        "DeleteRows(DeleteRows { file: \"f\", first: RowName { batch: BatchName { origin: Origin(1), number: Number(2) }, ordinal: 1 }, last: 3, is_held: true, is_quiet: false })",
     ),
-    (&["forget", "f"], "Forget { file: \"f\", is_quiet: false }"),
+    (
+        &["forget", "f"],
+        "Forget(Forget { file: \"f\", is_quiet: false })",
+    ),
     (
         &["pack", "d"],
-        "Pack { folder: \"d\", is_all: false, is_quiet: false }",
+        "Pack(Pack { folder: \"d\", is_all: false, is_quiet: false })",
     ),
     (
         &["pack", "--all", "--quiet", "d/"],
-        "Pack { folder: \"d/\", is_all: true, is_quiet: true }",
+        "Pack(Pack { folder: \"d/\", is_all: true, is_quiet: true })",
     ),
     (
         &["partial", "t", "A"],
-        "Partial { file: File(\"t\"), sql: \"A\" }",
-    ),
-    (&["part", "-", "-"], "Partial { file: Input, sql: \"-\" }"),
-    (
-        &["partial", "t", "--x"],
-        "Partial { file: File(\"t\"), sql: \"--x\" }",
+        "Partial(Partial { file: File(\"t\"), sql: \"A\" })",
     ),
     (
-        &["combine", "a", "-", "--b", "a"],
-        "Combine { partials: [File(\"a\"), Input, File(\"--b\"), File(\"a\")] }",
+        &["partial", "-", "-"],
+        "Partial(Partial { file: Input, sql: \"-\" })",
     ),
-    (&["combine", "-"], "Combine { partials: [Input] }"),
+    (
+        &["partial", "--", "t", "--x"],
+        "Partial(Partial { file: File(\"t\"), sql: \"--x\" })",
+    ),
+    (
+        &["combine", "a", "-", "--", "--b", "a"],
+        "Combine(Combine { partials: [File(\"a\"), Input, File(\"--b\"), File(\"a\")] })",
+    ),
+    (&["combine", "-"], "Combine(Combine { partials: [Input] })"),
     (
         &["finish", "p"],
-        "Finish { partial: File(\"p\"), expected: [], format: Text }",
+        "Finish(Finish { partial: File(\"p\"), expected: [], format: Text })",
     ),
     (
         &["finish", "--format", "json", "-"],
-        "Finish { partial: Input, expected: [], format: Json }",
+        "Finish(Finish { partial: Input, expected: [], format: Json })",
     ),
     (
         &["finish", "--expect", "a", "--expect", "-", "p"],
-        "Finish { partial: File(\"p\"), expected: [File(\"a\"), Input], format: Text }",
+        "Finish(Finish { partial: File(\"p\"), expected: [File(\"a\"), Input], format: Text })",
     ),
     (
         &["dump", "--names", "f"],
-        "Dump { file: \"f\", has_names: true, condition: \"\", columns: \"\" }",
+        "Dump(Dump { file: \"f\", has_names: true, condition: \"\", columns: \"\" })",
     ),
     (
         &["dump", "--columns", "b,A", "--where", "-1 = A", "f"],
-        "Dump { file: \"f\", has_names: false, condition: \"-1 = A\", columns: \"b,A\" }",
+        "Dump(Dump { file: \"f\", has_names: false, condition: \"-1 = A\", columns: \"b,A\" })",
     ),
     (
         &["dump", "--columns", "--", "f"],
-        "Dump { file: \"f\", has_names: false, condition: \"\", columns: \"--\" }",
+        "Dump(Dump { file: \"f\", has_names: false, condition: \"\", columns: \"--\" })",
     ),
     (
         &["dump", "--columns", "--x", "f"],
-        "Dump { file: \"f\", has_names: false, condition: \"\", columns: \"--x\" }",
+        "Dump(Dump { file: \"f\", has_names: false, condition: \"\", columns: \"--x\" })",
     ),
     (
         &["inspect", "f"],
-        "Inspect { file: \"f\", has_batches: false, form: Text }",
+        "Inspect(Inspect { file: \"f\", has_batches: false, has_digest: false, form: Text })",
     ),
     (
         &["inspect", "--batches", "--format", "json", "f"],
-        "Inspect { file: \"f\", has_batches: true, form: Json }",
+        "Inspect(Inspect { file: \"f\", has_batches: true, has_digest: false, form: Json })",
     ),
-    (&["summary", "f"], "Summary { file: \"f\" }"),
+    (&["summary", "f"], "Summary(Summary { file: \"f\" })"),
     (
         &["offer", "f", "-"],
-        "Offer { file: \"f\", summary: Input }",
+        "Offer(Offer { file: \"f\", summary: Input })",
     ),
     (
         &["apply", "f", "a", "-", "b"],
-        "Apply { file: \"f\", offers: [File(\"a\"), Input, File(\"b\")], is_quiet: false }",
+        "Apply(Apply { file: \"f\", offers: [File(\"a\"), Input, File(\"b\")], is_quiet: false })",
     ),
 ];
 

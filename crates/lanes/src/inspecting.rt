@@ -1,18 +1,13 @@
 //! What `lanes inspect` writes: what a file or a folder holds, and what a partial answer or a summary covers.
 
-use crate::failure::Failure;
-use crate::folder_reports;
-use crate::folders::{Opened, open_folder};
-use crate::home::Home;
-use crate::host::Host;
-use crate::inputs::LazyFile;
-use crate::peeked::Peeked;
-use crate::progress::{Progress, Told};
-use crate::reports::{buffered, flushed, told};
+use crate::folder_reports::{self, digest_of, report_with};
 use column_file::read_summary;
-use command_line::{ReportForm, Source};
+use command_line::{Inspect, ReportForm, Source};
 use partial_commands::{inspect_partial_answer, inspect_summary};
 use partial_file::read_partial_answer;
+use program_failures::{Failure, buffered, flushed, told};
+use program_folders::{Opened, open_folder};
+use program_inputs::{Home, Host, LazyFile, Peeked, Progress, Told};
 use refusal_sentences::CommandRefusal;
 use replica_reading::{OpenFile, list_batches};
 use std::fs::Files;
@@ -29,13 +24,11 @@ const SUMMARY: &[u8] = b"FLSM";
 pub fn inspect<R: Host>(
     rt: &R,
     progress: &Progress<'_, R>,
-    file: &str,
-    has_batches: bool,
-    form: ReportForm,
+    asked: &Inspect<'_>,
 ) -> Result<(), Failure> {
-    match Home::of(rt, file) {
-        Home::File(file) => inspect_input(rt, progress, file, has_batches, form),
-        Home::Folder(folder) => inspect_folder(rt, progress, folder, has_batches, form),
+    match Home::of(rt, asked.file) {
+        Home::File(file) => inspect_input(rt, progress, file, asked),
+        Home::Folder(folder) => inspect_folder(rt, progress, folder, asked),
     }
 }
 
@@ -44,12 +37,15 @@ fn inspect_input<R: Host>(
     rt: &R,
     progress: &Progress<'_, R>,
     file: &str,
-    has_batches: bool,
-    form: ReportForm,
+    asked: &Inspect<'_>,
 ) -> Result<(), Failure> {
+    let form = asked.form;
     let peeked = Peeked::new(Told::new(progress, Source::File(file), LazyFile::new(rt, file)));
-    if has_batches {
+    if asked.has_batches {
         list(rt, &open(rt, file, peeked)?, form)
+    } else if asked.has_digest {
+        let held = open(rt, file, peeked)?;
+        report_with(rt, &held, form, digest_of(rt, form, &held)?.as_str())
     } else if peeked.front().starts_with(PARTIAL) {
         inspect_partial(rt, file, peeked, form)
     } else if peeked.front().starts_with(SUMMARY) {
@@ -64,11 +60,11 @@ fn inspect_folder<R: Host>(
     rt: &R,
     progress: &Progress<'_, R>,
     folder: &str,
-    has_batches: bool,
-    form: ReportForm,
+    asked: &Inspect<'_>,
 ) -> Result<(), Failure> {
-    if !has_batches {
-        return folder_reports::inspect(rt, progress, folder, form);
+    let form = asked.form;
+    if !asked.has_batches {
+        return folder_reports::inspect(rt, progress, folder, asked.has_digest, form);
     }
     let opened: Opened<OpenFile> = open_folder(rt, progress, folder)?;
     list(rt, &opened.held, form)

@@ -1,56 +1,21 @@
 //! The program `lanes`: replicas of a table in files, queries over them, and scripts of a whole cluster.
 #![tactic(auto)]
 
-mod batch_names;
-mod beginning;
-mod change;
-mod changing;
-mod checked_part;
-mod combined;
 mod commands;
-mod failure;
-mod folder_changes;
 mod folder_reports;
-mod folders;
-mod forgetting;
-mod front;
-mod heads;
-mod home;
-mod host;
-mod inputs;
 mod inspecting;
-mod judge;
-mod judged_puts;
-mod loading;
 mod merging;
-mod named_imports;
-mod offers;
-mod output;
-mod packing;
-mod part_failures;
-mod part_heads;
-mod peeked;
-mod progress;
-mod putting;
+mod opening;
 mod queries;
 mod query_partial_answers;
-mod replacing;
 mod reports;
-mod rounds;
-mod said;
 mod scripts;
 mod spreading;
-mod told_folder;
-mod unwritten;
-mod watched;
-mod watched_folder;
-mod whole_lines;
+mod typed;
 
-use command_line::{Format, Queries, Request};
-use failure::Failure;
-use host::Host;
-use inputs::name_of;
-use progress::Progress;
+use command_line::{Queries, Query, Request};
+use program_failures::Failure;
+use program_inputs::{Host, Progress};
 use std::io::{IsTerminal, Write};
 use std::process::ExitCode;
 use std::rt::Env;
@@ -86,58 +51,21 @@ fn run<R: Host + Env, N: Write>(
     let request = command_line::read_request(rt.alloc(), words.as_slice())?;
     let is_told = terminals.errors && is_told(&request, terminals.output);
     let progress = Progress::new(rt, is_told, terminals.input);
-    let name = subject_of(&request);
+    let (command, name) = (request.command(), request.subject());
     let outcome = answer(rt, request, terminals, &progress, notes);
     progress.clear();
     match outcome {
         Ok(status) => Ok(status),
-        Err(failure) => Err(failure.about(rt.alloc(), name)),
-    }
-}
-
-/// What a request is about: the file, the folder or the input that it reads or changes; of several partial answers the first.
-fn subject_of<'a>(request: &Request<'a>) -> &'a str {
-    match request {
-        Request::Run { source, .. }
-        | Request::Partial { file: source, .. }
-        | Request::Finish {
-            partial: source,
-            ..
-        } => name_of(*source),
-        Request::Create { file, .. }
-        | Request::Import { file, .. }
-        | Request::Delete { file, .. }
-        | Request::DeleteRows { file, .. }
-        | Request::Forget { file, .. }
-        | Request::Query { file, .. }
-        | Request::Dump { file, .. }
-        | Request::Inspect { file, .. }
-        | Request::Summary { file }
-        | Request::Offer { file, .. }
-        | Request::Apply { file, .. }
-        | Request::Check { file }
-        | Request::Spread { file, .. } => *file,
-        Request::Merge { out, .. } => *out,
-        Request::Pack { folder, .. } => *folder,
-        Request::Combine { partials } => match partials.as_slice().first() {
-            Some(first) => name_of(*first),
-            None => "",
-        },
+        Err(failure) => Err(failure.about(rt.alloc(), command, name)),
     }
 }
 
 /// Whether it is said at a terminal how far the reading is: unless it is to be quiet, or other lines come there meanwhile.
 fn is_told(request: &Request<'_>, is_shown: bool) -> bool {
     match request {
-        Request::Run { is_explained, .. } => !*is_explained && !is_shown,
-        Request::Import { is_quiet, .. }
-        | Request::Delete { is_quiet, .. }
-        | Request::DeleteRows { is_quiet, .. }
-        | Request::Forget { is_quiet, .. }
-        | Request::Apply { is_quiet, .. }
-        | Request::Merge { is_quiet, .. }
-        | Request::Spread { is_quiet, .. } => !*is_quiet,
-        _ => true,
+        Request::Run(asked) => !asked.is_explained && !is_shown,
+        Request::Create(_) | Request::Pack(_) => true,
+        _ => !request.is_quiet(),
     }
 }
 
@@ -149,93 +77,32 @@ fn answer<R: Host, N: Write>(
     progress: &Progress<'_, R>,
     notes: &mut N,
 ) -> Result<ExitCode, Failure> {
+    let is_shown = terminals.output;
     match request {
-        Request::Run {
-            source,
-            is_explained,
-        } => scripts::run(rt, progress, source, is_explained, terminals.input, notes)?,
-        Request::Query {
-            file,
-            queries,
-            format,
-        } => return query(rt, progress, file, queries, format, terminals, notes),
-        Request::Partial { file, sql } => {
-            query_partial_answers::partial(rt, progress, file, sql, terminals.output)?;
-        }
-        Request::Combine { partials } => {
-            query_partial_answers::combine(rt, progress, partials.as_slice(), terminals.output)?;
-        }
-        Request::Finish {
-            partial,
-            expected,
-            format,
-        } => query_partial_answers::finish(rt, progress, partial, expected.as_slice(), format)?,
-        Request::Create {
-            file,
-            table,
-            columns,
-            is_quiet,
-        } => commands::create(rt, progress, file, table, columns.as_slice(), is_quiet)?,
-        Request::Import {
-            file,
-            csvs,
-            first,
-            form,
-            is_quiet,
-        } => commands::import(rt, progress, file, csvs.as_slice(), first, form, is_quiet)?,
-        Request::Delete {
-            file,
-            condition,
-            is_quiet,
-        } => commands::delete(rt, progress, file, condition, is_quiet)?,
-        Request::DeleteRows {
-            file,
-            first,
-            last,
-            is_held,
-            is_quiet,
-        } => commands::delete_rows(rt, progress, file, first, last, is_held, is_quiet)?,
-        Request::Apply {
-            file,
-            offers,
-            is_quiet,
-        } => commands::apply(rt, progress, file, offers.as_slice(), is_quiet)?,
-        Request::Forget { file, is_quiet } => commands::forget(rt, progress, file, is_quiet)?,
-        Request::Dump {
-            file,
-            has_names,
-            condition,
-            columns,
-        } => reports::dump(rt, progress, file, has_names, condition, columns)?,
-        Request::Inspect {
-            file,
-            has_batches,
-            form,
-        } => inspecting::inspect(rt, progress, file, has_batches, form)?,
-        Request::Summary { file } => reports::summary(rt, progress, file, terminals.output)?,
-        Request::Offer { file, summary } => reports::offer(
+        Request::Run(asked) => scripts::run(rt, progress, &asked, terminals.input, notes)?,
+        Request::Query(asked) => return query(rt, progress, &asked, terminals, notes),
+        Request::Partial(asked) => query_partial_answers::partial(rt, progress, &asked, is_shown)?,
+        Request::Combine(asked) => query_partial_answers::combine(rt, progress, &asked, is_shown)?,
+        Request::Finish(asked) => query_partial_answers::finish(rt, progress, &asked)?,
+        Request::Create(asked) => commands::create(rt, progress, &asked)?,
+        Request::Import(asked) => commands::import(rt, progress, &asked)?,
+        Request::Delete(asked) => commands::delete(rt, progress, &asked)?,
+        Request::DeleteRows(asked) => commands::delete_rows(rt, progress, &asked)?,
+        Request::Apply(asked) => commands::apply(rt, progress, &asked)?,
+        Request::Forget(asked) => commands::forget(rt, progress, &asked)?,
+        Request::Dump(asked) => reports::dump(rt, progress, &asked)?,
+        Request::Inspect(asked) => inspecting::inspect(rt, progress, &asked)?,
+        Request::Summary(asked) => reports::summary(rt, progress, asked.file, is_shown)?,
+        Request::Offer(asked) => reports::offer(rt, progress, &asked, is_shown)?,
+        Request::Check(asked) => reports::check(rt, progress, &asked)?,
+        Request::Merge(asked) => merging::merge(rt, progress, &asked)?,
+        Request::Spread(asked) => spreading::spread(rt, progress, &asked)?,
+        Request::Pack(asked) => program_folders::pack(
             rt,
-            progress,
-            file,
-            summary,
-            terminals.output,
+            asked.folder,
+            asked.is_all,
+            asked.is_quiet,
         )?,
-        Request::Check { file } => reports::check(rt, progress, file)?,
-        Request::Merge {
-            out,
-            files,
-            is_quiet,
-        } => merging::merge(rt, progress, out, files.as_slice(), is_quiet)?,
-        Request::Spread {
-            file,
-            outs,
-            is_quiet,
-        } => spreading::spread(rt, progress, file, outs.as_slice(), is_quiet)?,
-        Request::Pack {
-            folder,
-            is_all,
-            is_quiet,
-        } => packing::pack(rt, folder, is_all, is_quiet)?,
     }
     Ok(ExitCode::SUCCESS)
 }
@@ -244,22 +111,25 @@ fn answer<R: Host, N: Write>(
 fn query<R: Host, N: Write>(
     rt: &R,
     progress: &Progress<'_, R>,
-    file: &str,
-    queries: Queries<'_>,
-    format: Format,
+    asked: &Query<'_>,
     terminals: Terminals,
     notes: &mut N,
 ) -> Result<ExitCode, Failure> {
+    let Query {
+        file,
+        queries,
+        format,
+    } = asked;
     let is_whole = match queries {
         Queries::Texts(texts) => {
-            queries::answer_texts(rt, progress, file, texts.as_slice(), format)?;
+            queries::answer_texts(rt, progress, *file, texts.as_slice(), *format)?;
             true
         }
         Queries::Lines => queries::answer_typed(
             rt,
             progress,
-            file,
-            format,
+            *file,
+            *format,
             terminals.input,
             terminals.errors,
             notes,

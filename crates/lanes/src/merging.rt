@@ -1,24 +1,17 @@
 //! The merge of files and of folders.
 
-use crate::change::{Done, Reply};
-use crate::checked_part::{CheckedPart, PartReason};
-use crate::failure::Failure;
-use crate::folders::Parts;
-use crate::heads::{Headed, Heads};
-use crate::home::{Home, is_folder};
-use crate::host::Host;
-use crate::inputs::LazyFile;
-use crate::output::{Output, is_special, write_in_place};
-use crate::part_failures::{Unread, at_place, refused, unread_for};
-use crate::progress::{Progress, Told};
-use crate::putting::make_folder;
-use crate::rounds::Rounds;
-use crate::said::say;
-use command_line::{Source, not_for_a_folder};
+use command_line::{Merge, Source, not_for_a_folder};
 use either::Either;
 use file_home::{Left, merged};
 use folder_home::PartFault;
 use part_folder::path_in;
+use program_changes::{Done, Headed, Heads, Reply, say};
+use program_failures::Failure;
+use program_files::{Output, is_special, write_in_place};
+use program_folders::{
+    CheckedPart, PartReason, Parts, Rounds, Unread, at_place, make_folder, refused, unread_for,
+};
+use program_inputs::{Home, Host, LazyFile, Progress, Told, is_folder};
 use refusal_sentences::CommandRefusal;
 use std::alloc::{AllocError, Global};
 use std::fs::{self, Files};
@@ -37,11 +30,10 @@ const NO_FOLDER: &str =
 pub fn merge<R: Host>(
     rt: &R,
     progress: &Progress<'_, R>,
-    out: &str,
-    names: &[&str],
-    is_quiet: bool,
+    asked: &Merge<'_>,
 ) -> Result<(), Failure> {
-    let home = Home::to_make(out);
+    let names = asked.files.as_slice();
+    let home = Home::to_make(asked.out);
     let left = match home {
         Home::Folder(out) => merge_into_folder(rt, progress, out, names)?,
         Home::File(out) if is_folder(rt, out) => {
@@ -50,7 +42,7 @@ pub fn merge<R: Host>(
         Home::File(out) if is_special(rt, out) => return fill(rt, progress, out, names),
         Home::File(out) => replace(rt, progress, out, names)?,
     };
-    say(rt, home, &Done::new(Reply::Created, left), is_quiet)
+    say(rt, home, &Done::new(Reply::Created, left), asked.is_quiet)
 }
 
 /// Makes a folder whose one part is what all of some files hold.

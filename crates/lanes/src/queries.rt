@@ -1,11 +1,10 @@
 //! Queries over a file: those of the command line, and those of lines of standard input.
 
-use crate::failure::Failure;
-use crate::host::Host;
-use crate::inputs::opened;
-use crate::progress::Progress;
-use crate::watched::{Cause, Watched};
+use crate::opening::opened;
+use crate::typed::{Typed, WELCOME};
 use command_line::Format;
+use program_failures::Failure;
+use program_inputs::{Cause, Host, Progress, Watched};
 use refusal_sentences::{CommandRefusal, Knowledge, Text};
 use replica_reading::{Listener, answer_all, answer_lines};
 use std::alloc::Global;
@@ -86,7 +85,10 @@ pub fn answer_typed<R: Host, N: Write>(
     notes: &mut N,
 ) -> Result<bool, Failure> {
     let held = opened(rt, progress, file)?;
-    let mut reader = Counted::new(rt.reader());
+    if is_typed {
+        let _ = notes.write_all(WELCOME.as_bytes());
+    }
+    let mut reader = Counted::new(Typed::new(rt, rt.reader(), is_typed));
     let mut writer = Counted::new(Watched::new(io::writer(rt)));
     let mut person = Person {
         rt,

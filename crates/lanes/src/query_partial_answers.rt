@@ -1,21 +1,19 @@
 //! The commands on partial answers: what a file gives to it, partial answers combined, and the answer that a partial answer is
 //! finished to.
 
-use crate::combined::Combined;
-use crate::failure::Failure;
-use crate::host::Host;
-use crate::inputs::{name_of, of_other_table, opened_from, source_of, unread, unread_by};
-use crate::progress::Progress;
-use crate::reports::{buffered, flushed, told};
-use crate::watched::Watched;
+use crate::opening::opened_from;
 use column_file::read_summary;
-use command_line::{Format, Source, not_for_a_terminal};
+use command_line::{Combine, Finish, Format, Partial, Source, not_for_a_terminal};
 use partial_answers::{PartialAnswer, PartialAnswerFault};
 use partial_commands::{
     ExpectationError, PartialAnswerError, combine_with, write_expected_answer,
     write_finished_answer, write_partial_answer_of_store,
 };
 use partial_file::{read_partial_answer, write_partial_answer};
+use program_failures::{
+    Combined, Failure, buffered, flushed, of_other_table, told, unread, unread_by,
+};
+use program_inputs::{Host, Progress, Watched, source_of};
 use refusal_sentences::{CommandRefusal, Knowledge, Text, is_of_a_text};
 use replica_store::Summary;
 use std::io;
@@ -28,16 +26,17 @@ const NO_QUERY: &str = "this was not written by lanes partial: its text is not a
 pub fn partial<'r, R: Host>(
     rt: &'r R,
     progress: &'r Progress<'r, R>,
-    source: Source<'_>,
-    sql: &str,
+    asked: &Partial<'_>,
     is_terminal: bool,
 ) -> Result<(), Failure> {
     if is_terminal {
         return Err(Failure::from(not_for_a_terminal(rt.alloc())));
     }
-    let held = opened_from(rt, progress, source)?;
+    let sql = asked.sql;
+    let held = opened_from(rt, progress, asked.file)?;
     let mut writer = buffered(rt)?;
-    match write_partial_answer_of_store(rt.alloc(), held.store(), sql, &mut writer) {
+    let key = held.hash_key();
+    match write_partial_answer_of_store(rt.alloc(), held.store(), key, sql, &mut writer) {
         Err(refusal) if is_of_a_text(refusal) => { Err(not_asked(rt, refusal, sql, held.schema())) }
         outcome => told(rt, flushed(writer, outcome)),
     }
@@ -62,13 +61,13 @@ fn not_asked<'a, R: AllocGlobal>(
 pub fn combine<'r, R: Host>(
     rt: &'r R,
     progress: &'r Progress<'r, R>,
-    sources: &[Source<'_>],
+    asked: &Combine<'_>,
     is_terminal: bool,
 ) -> Result<(), Failure> {
     if is_terminal {
         return Err(Failure::from(not_for_a_terminal(rt.alloc())));
     }
-    match combined(rt, progress, sources)? {
+    match combined(rt, progress, asked.partials.as_slice())? {
         Some(partial) => write_out(rt, &partial),
         None => Err(Failure::from(Refusal::ReadFault)),
     }
@@ -91,7 +90,7 @@ fn combined<'r, R: Host>(
             }
         };
         if sources.len() > 1 {
-            combined.add(rt.alloc(), name_of(*source), &next)?;
+            combined.add(rt.alloc(), source.name(), &next)?;
         }
         match combine_with(rt.alloc(), before, next) {
             Ok(both) => before = Some(both),
@@ -108,10 +107,10 @@ fn combined<'r, R: Host>(
 pub fn finish<'r, R: Host>(
     rt: &'r R,
     progress: &'r Progress<'r, R>,
-    source: Source<'_>,
-    expected: &[Source<'_>],
-    format: Format,
+    asked: &Finish<'_>,
 ) -> Result<(), Failure> {
+    let (source, format) = (asked.partial, asked.format);
+    let expected = asked.expected.as_slice();
     if expected.is_empty() {
         finish_any(rt, progress, source, format)
     } else {
@@ -170,7 +169,7 @@ fn finish_expected<'r, R: Host>(
         }
         Err(ExpectationError::SchemaDiffers) => {
             let found = first_other(summaries, &schema);
-            Err(of_other_table(rt, name_of(source), &schema, found, expected))
+            Err(of_other_table(rt, source.name(), &schema, found, expected))
         }
         Err(ExpectationError::Missing(name)) => Err(missing(rt, expected, summaries, name)),
     }
@@ -215,7 +214,7 @@ fn missing<R: AllocGlobal>(
     let refusal = CommandRefusal::Missing(name);
     for (source, summary) in sources.iter().zip(summaries) {
         if summary.names().holds(name) {
-            let name = name_of(*source);
+            let name = source.name();
             return Failure::said_of(rt.alloc(), refusal, name, Knowledge::Nothing);
         }
     }
@@ -244,7 +243,7 @@ fn refusal_of(fault: PartialAnswerFault) -> CommandRefusal {
 /// Why a partial answer is not combined or finished.
 fn refused<R: AllocGlobal>(rt: &R, source: Source<'_>, fault: PartialAnswerFault) -> Failure {
     let refusal = refusal_of(fault);
-    let name = name_of(source);
+    let name = source.name();
     match fault {
         PartialAnswerFault::Query(_) => Failure::advised(rt.alloc(), refusal, name, NO_QUERY),
         _ => Failure::said_of(rt.alloc(), refusal, name, Knowledge::Nothing),

@@ -1,56 +1,50 @@
 //! The commands that read a file and write to standard output what is in it.
 
-use crate::failure::Failure;
 use crate::folder_reports;
-use crate::home::Home;
-use crate::host::Host;
-use crate::inputs::{name_of, opened, opened_source, source_of, unread_by};
-use crate::progress::Progress;
-use crate::watched::{Cause, Watched};
-use command_line::{Source, not_for_a_terminal};
+use crate::opening::{opened, opened_source};
+use command_line::{Check, Dump, Offer, Source, not_for_a_terminal};
 use live_columns::{Unchosen, choose};
+use program_failures::{Failure, buffered, flushed, told, unread_by};
+use program_inputs::{Home, Host, Progress, Watched, source_of};
 use refusal_sentences::{CommandRefusal, is_of_a_text};
-use replica_reading::{OpenFile, dump_where};
-use std::io::{self, BufWriter, Printer, Write};
+use replica_reading::{OpenFile, check_with_digest, dump_where};
+use std::io;
 use table_model::{Counted, Refusal};
 
-/// Standard output, with a buffer.
-pub fn buffered<R: Print + AllocGlobal>(
-    rt: &R,
-) -> Result<Counted<BufWriter<Watched<Printer<'_, R>>>>, Refusal> {
-    match BufWriter::new(rt.alloc(), Watched::new(io::writer(rt))) {
-        Ok(buffer) => Ok(Counted::new(buffer)),
-        Err(_) => Err(Refusal::Memory),
-    }
-}
-
 /// Says whether a file is a canonical one, and how much is in it.
-pub fn check<R: Host>(rt: &R, progress: &Progress<'_, R>, file: &str) -> Result<(), Failure> {
-    match Home::of(rt, file) {
-        Home::File(file) => check_file(rt, progress, file),
-        Home::Folder(folder) => folder_reports::check(rt, progress, folder),
+pub fn check<R: Host>(
+    rt: &R,
+    progress: &Progress<'_, R>,
+    asked: &Check<'_>,
+) -> Result<(), Failure> {
+    match Home::of(rt, asked.file) {
+        Home::File(file) => check_file(rt, progress, file, asked.has_digest),
+        Home::Folder(folder) => folder_reports::check(rt, progress, folder, asked.has_digest),
     }
 }
 
 /// The same of a file.
-fn check_file<R: Host>(rt: &R, progress: &Progress<'_, R>, file: &str) -> Result<(), Failure> {
+fn check_file<R: Host>(
+    rt: &R,
+    progress: &Progress<'_, R>,
+    file: &str,
+    has_digest: bool,
+) -> Result<(), Failure> {
     let held = opened_source(rt, progress, Source::File(file))?;
     let mut writer = Counted::new(Watched::new(io::writer(rt)));
-    let outcome = replica_reading::check(rt.alloc(), &held, &mut writer);
+    let outcome = if has_digest {
+        check_with_digest(rt.alloc(), &held, &mut writer)
+    } else {
+        replica_reading::check(rt.alloc(), &held, &mut writer)
+    };
     told(rt, writer.into_inner().ended(outcome))
 }
 
 /// Writes a file's live rows as comma-separated values, with their names or without: those for which a condition is true, in the
 /// columns of a list of names. An empty condition is true for all rows, and an empty list is all columns.
-pub fn dump<R: Host>(
-    rt: &R,
-    progress: &Progress<'_, R>,
-    file: &str,
-    has_names: bool,
-    condition: &str,
-    columns: &str,
-) -> Result<(), Failure> {
-    let held = opened(rt, progress, file)?;
+pub fn dump<R: Host>(rt: &R, progress: &Progress<'_, R>, asked: &Dump<'_>) -> Result<(), Failure> {
+    let (condition, columns) = (asked.condition, asked.columns);
+    let held = opened(rt, progress, asked.file)?;
     let choice = match choose(
         rt.alloc(),
         held.schema(),
@@ -67,7 +61,7 @@ pub fn dump<R: Host>(
         }
     };
     let mut writer = buffered(rt)?;
-    let outcome = dump_where(rt.alloc(), &held, &choice, has_names, &mut writer);
+    let outcome = dump_where(rt.alloc(), &held, &choice, asked.has_names, &mut writer);
     told(rt, flushed(writer, outcome))
 }
 
@@ -105,13 +99,13 @@ pub fn summary<R: Host>(
 pub fn offer<R: Host>(
     rt: &R,
     progress: &Progress<'_, R>,
-    file: &str,
-    source: Source<'_>,
+    asked: &Offer<'_>,
     is_terminal: bool,
 ) -> Result<(), Failure> {
     if is_terminal {
         return Err(Failure::from(not_for_a_terminal(rt.alloc())));
     }
+    let (file, source) = (asked.file, asked.summary);
     let held = opened(rt, progress, file)?;
     let mut reader = source_of(rt, progress, source);
     let summary = match column_file::read_summary(rt.alloc(), &mut reader) {
@@ -121,46 +115,8 @@ pub fn offer<R: Host>(
     let mut writer = buffered(rt)?;
     let outcome = replica_reading::offer(rt.alloc(), &held, &summary, &mut writer);
     if outcome == Err(Refusal::SchemaDiffers) {
-        let name = name_of(source);
+        let name = source.name();
         return Err(Failure::of_tables(rt.alloc(), name, summary.schema(), file, held.schema()));
     }
     told(rt, flushed(writer, outcome))
-}
-
-/// Writes a line to standard output.
-pub fn write_line<R: Print + AllocGlobal>(rt: &R, line: &[u8]) -> Result<(), Failure> {
-    let mut writer = Counted::new(Watched::new(io::writer(rt)));
-    let outcome = writer.write_whole(line);
-    match writer.into_inner().ended(outcome) {
-        Ok(()) => Ok(()),
-        Err(cause) => Err(Failure::of_output(rt.alloc(), cause)),
-    }
-}
-
-/// Writes out what a buffer still has, if all went well before.
-pub fn flushed<W: Write + Drop>(
-    writer: Counted<BufWriter<Watched<W>>>,
-    outcome: Result<(), Refusal>,
-) -> Result<(), Cause> {
-    let mut buffer = writer.into_inner();
-    let outcome = match outcome {
-        Ok(()) => match buffer.flush() {
-            Ok(()) => Ok(()),
-            Err(_) => Err(Refusal::WriteFault),
-        },
-        Err(refusal) => Err(refusal),
-    };
-    let (watched, _) = buffer.into_parts();
-    watched.ended(outcome)
-}
-
-/// What came of a report: a refusal of it is one of standard output, or out of memory.
-pub fn told<R: AllocGlobal>(rt: &R, outcome: Result<(), Cause>) -> Result<(), Failure> {
-    match outcome {
-        Ok(()) => Ok(()),
-        Err(cause) if cause.refusal == Refusal::WriteFault => {
-            Err(Failure::of_output(rt.alloc(), cause))
-        }
-        Err(cause) => Err(Failure::from(cause.refusal)),
-    }
 }

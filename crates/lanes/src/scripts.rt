@@ -1,12 +1,9 @@
 //! Scripts.
 
-use crate::failure::Failure;
-use crate::host::Host;
-use crate::inputs::{source_of, unread};
-use crate::progress::Progress;
-use crate::watched::Watched;
-use command_line::Source;
+use command_line::{Run, Source};
 use lanes_main::{script, script_with_notes};
+use program_failures::{Failure, unread};
+use program_inputs::{Host, Progress, Watched, source_of};
 use refusal_sentences::CommandRefusal;
 use std::io::{self, Write};
 use table_model::{Counted, Refusal};
@@ -20,17 +17,17 @@ const WAITING: &str =
 pub fn run<R: Host, N: Write>(
     rt: &R,
     progress: &Progress<'_, R>,
-    source: Source<'_>,
-    is_explained: bool,
+    asked: &Run<'_>,
     is_typed: bool,
     notes: &mut N,
 ) -> Result<(), Failure> {
+    let source = asked.source;
     if is_typed && source == Source::Input {
         let _ = notes.write_all(WAITING.as_bytes());
     }
     let mut reader = source_of(rt, progress, source);
     let mut writer = Counted::new(Watched::new(io::writer(rt)));
-    let outcome = if is_explained {
+    let outcome = if asked.is_explained {
         script_with_notes(rt.alloc(), &mut reader, &mut writer, notes)
     } else {
         script(rt.alloc(), &mut reader, &mut writer)

@@ -1,18 +1,16 @@
 //! The spread of a table over new files and folders.
 
-use crate::failure::Failure;
-use crate::home::{Home, is_there};
-use crate::host::Host;
-use crate::inputs::opened;
-use crate::progress::Progress;
-use crate::putting::make_folder;
-use crate::said::{say_left, say_line};
-use crate::unwritten::{not_written, unlocked};
-use crate::watched_folder::WatchedFolder;
+use crate::opening::opened;
+use command_line::Spread;
 use file_home::{Left, put};
-use file_replacing::{Folder, Place, SystemFolder};
+use file_replacing::{FileFolder, Place, SystemFileFolder};
 use folder_home::part_name;
 use part_folder::path_in;
+use program_changes::{say_left, say_line};
+use program_failures::{Failure, not_written, unlocked};
+use program_files::WatchedFolder;
+use program_folders::make_folder;
+use program_inputs::{Home, Host, Progress, is_there};
 use refusal_sentences::CommandRefusal;
 use replica_store::Store;
 use std::alloc::AllocError;
@@ -30,11 +28,10 @@ const NAMED_TWICE: &str = "this OUT is named twice";
 pub fn spread<R: Host>(
     rt: &R,
     progress: &Progress<'_, R>,
-    file: &str,
-    outs: &[&str],
-    is_quiet: bool,
+    asked: &Spread<'_>,
 ) -> Result<(), Failure> {
-    let held = opened(rt, progress, file)?;
+    let outs = asked.outs.as_slice();
+    let held = opened(rt, progress, asked.file)?;
     are_free(rt, outs)?;
     let store = held.store();
     let runs = NameRuns::of(rt.alloc(), store, outs.len().max(1))?;
@@ -51,7 +48,7 @@ pub fn spread<R: Host>(
             }
         }
     }
-    say_line(rt, line.as_str(), is_quiet)
+    say_line(rt, line.as_str(), asked.is_quiet)
 }
 
 /// Refuses the first output that is there already, or that was named before under this name or another one.
@@ -162,7 +159,7 @@ fn make_file<R: Eprint + Files<File = File> + Clock + AllocGlobal>(
 ) -> Result<Made, Failure> {
     let place = Place::followed(rt, out)?;
     let file = String::from_str(rt.alloc(), place.name())?;
-    let mut folder = WatchedFolder::new(SystemFolder::new(rt));
+    let mut folder = WatchedFolder::new(SystemFileFolder::new(rt));
     if let Err(why) = folder.hold(rt, &place) {
         return Err(unlocked(rt, out, &place, why));
     }

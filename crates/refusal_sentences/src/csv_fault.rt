@@ -243,9 +243,23 @@ const NULLS: [&[u8]; 9] = [
     b"NA", b"N/A", b"NaN", b"None", b"nil", b"null", b"-", b"?", b"missing",
 ];
 
-/// Writes what is wrong with a field of a row, which is of this column.
+/// Whether a line has the names of columns, as a heading does: each of its fields names a column of the table.
+pub fn is_heading(line: &[u8], separator: u8, schema: &Schema) -> bool {
+    line.split(|byte| *byte == separator)
+        .all(|field| has_name(schema, unquoted(field)))
+}
+
+/// What is wrong with a heading that is read as a row, in the line of this number.
+pub fn fault_of_heading_in(line: u64) -> &'static str {
+    if line == 1 {
+        "this line has the names of columns: leave --no-header out"
+    } else {
+        "this line has the names of columns again: leave it out, or name each CSV by itself"
+    }
+}
+
+/// Writes what is wrong with a field of a row, whose column has this type.
 pub fn write_fault_of_field<W: fmt::Write>(
-    column: &str,
     column_type: ColType,
     text: &[u8],
     f: &mut fmt::Formatter<W>,
@@ -259,7 +273,7 @@ pub fn write_fault_of_field<W: fmt::Write>(
         return write!(f, "{field} has more than 30 digits");
     }
     write!(f, "{field} is not a whole number")?;
-    match advice_on_field(column, inner) {
+    match advice_on_field(inner) {
         Some(advice) => write!(f, ": {advice}"),
         None if NULLS.iter().any(|null| same_word(inner, null)) => {
             f.write_str("; if it is a null, say so by --null")
@@ -269,11 +283,9 @@ pub fn write_fault_of_field<W: fmt::Write>(
 }
 
 /// What to do about a field that is not a number, if it is known.
-fn advice_on_field(column: &str, field: &[u8]) -> Option<&'static str> {
+fn advice_on_field(field: &[u8]) -> Option<&'static str> {
     if field.is_empty() {
         Some("a null is an empty field without quotes, or NULL")
-    } else if same_word(field, column.as_bytes()) {
-        Some("if the first line has the names of columns, leave --no-header out")
     } else if field.trim_ascii().len() < field.len() && is_whole_number(field.trim_ascii()) {
         Some("a field has no spaces")
     } else if field.first() == Some(&b'+') {

@@ -10,7 +10,7 @@ const NO_JOIN: &str = "there are no joins: a query asks one table";
 const NO_CASE: &str = "there is no CASE: ask a query for each case, with its condition in WHERE";
 
 const NO_ORDER: &str =
-    "there is no ORDER BY: rows ascend by the columns of GROUP BY; sort the answer, as by sort";
+    "there is no ORDER BY: rows ascend by the columns of GROUP BY; pipe the answer through sort -n";
 
 const NO_TABLE_CHANGE: &str =
     "a query changes nothing: lanes dump and lanes import move the rows to a table of other columns";
@@ -27,7 +27,7 @@ const NO_FILTER: &str = "there is no FILTER: ask another query, with the conditi
 
 const NO_SUBQUERY: &str = "there are no subqueries: ask them by themselves";
 
-const NO_TOP: &str = "there is no TOP: cut the answer, as by head";
+const NO_TOP: &str = "there is no TOP: pipe the answer through head";
 
 const NO_INTO: &str = "there is no INTO: redirect the answer into a file";
 
@@ -53,11 +53,14 @@ const WORDS: [Cure; 43] = [
     ),
     (
         b"DESC",
-        "rows always ascend by the columns of GROUP BY: sort the answer, as by sort -r",
+        "rows always ascend by the columns of GROUP BY: pipe the answer through sort -rn",
     ),
-    (b"LIMIT", "there is no LIMIT: cut the answer, as by head"),
-    (b"FETCH", "there is no FETCH: cut the answer, as by head"),
-    (b"OFFSET", "there is no OFFSET: cut the answer, as by tail"),
+    (b"LIMIT", "there is no LIMIT: pipe the answer through head"),
+    (b"FETCH", "there is no FETCH: pipe the answer through head"),
+    (
+        b"OFFSET",
+        "there is no OFFSET: pipe the answer through tail",
+    ),
     (b"TOP", NO_TOP),
     (b"JOIN", NO_JOIN),
     (b"INNER", NO_JOIN),

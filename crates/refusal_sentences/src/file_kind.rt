@@ -14,16 +14,13 @@ const OTHERS: [Kind; 19] = [
     (b"\xfe\xff", "this is UTF-16: save it as UTF-8"),
     (
         b"\x1f\x8b",
-        "this is packed by gzip: unpack it, as by gzip -dc",
+        "this is packed by gzip: unpack it with gzip -dc",
     ),
-    (
-        b"BZh",
-        "this is packed by bzip2: unpack it, as by bzip2 -dc",
-    ),
-    (b"\xfd7zXZ", "this is packed by xz: unpack it, as by xz -dc"),
+    (b"BZh", "this is packed by bzip2: unpack it with bzip2 -dc"),
+    (b"\xfd7zXZ", "this is packed by xz: unpack it with xz -dc"),
     (
         b"\x28\xb5\x2f\xfd",
-        "this is packed by zstd: unpack it, as by zstd -dc",
+        "this is packed by zstd: unpack it with zstd -dc",
     ),
     (
         b"PK\x03\x04",
@@ -54,7 +51,10 @@ const OTHERS: [Kind; 19] = [
 
 /// How files and messages of this program begin, and what reads them.
 const OWN: [Kind; 3] = [
-    (b"FLCF", "this is a file or an offer of lanes"),
+    (
+        b"FLCF",
+        "this is a table or an offer: lanes summary makes a summary of a table, and lanes partial a partial answer",
+    ),
     (
         b"FLSM",
         "this is a summary: lanes offer and lanes inspect read it",
@@ -87,7 +87,7 @@ pub fn of_no_csv(input: &[u8]) -> Option<&'static str> {
 pub fn of_no_file(input: &[u8]) -> Option<&'static str> {
     match kind_among(input, &OWN).or(kind_among(input, &OTHERS)) {
         None if is_text(input) => Some(
-            "this is a text and no file of lanes: lanes import reads comma-separated values, and lanes run a script",
+            "this is a text file, not a lanes file: import CSV with lanes import, run a script with lanes run",
         ),
         said => said,
     }

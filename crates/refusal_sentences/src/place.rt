@@ -340,10 +340,22 @@ impl<'a> Place<'a> {
             || possible.is_after_grouping()
     }
 
+    /// Whether the whole text is empty but for spaces.
+    fn is_of_nothing(&self) -> bool {
+        self.rest.is_empty() && self.before.trim_ascii().is_empty()
+    }
+
     /// Writes what is wrong here.
     pub fn write<W: fmt::Write>(&self, f: &mut fmt::Formatter<W>) -> fmt::Result {
         if let Some(advice) = self.advice() {
             return f.write_str(advice);
+        }
+        if self.is_of_nothing() {
+            return f.write_str(if self.is_condition {
+                "the condition is empty"
+            } else {
+                "the query is empty"
+            });
         }
         if self.rest.is_empty() {
             f.write_str("the text ends too early")?;

@@ -1,7 +1,7 @@
 //! Sentences on refusals.
 
 use crate::command_refusal::CommandRefusal;
-use crate::csv_fault::{Fields, write_fault_of_field, write_fault_of_heading};
+use crate::csv_fault::{Fields, fault_of_heading_in, write_fault_of_field, write_fault_of_heading};
 use crate::file_kind::{of_no_csv, of_no_file};
 use crate::meaning::meaning_of;
 use crate::quoted::{Printable, Quoted};
@@ -31,11 +31,13 @@ pub enum Knowledge<'a> {
     Line(u64),
     /// A line that has the wrong number of fields.
     Fields(Fields<'a>),
-    /// A field of a row: its column's name and type, and at most the first 40 bytes of its text.
+    /// A field of a row: its column's name and type, at most the first 40 bytes of its text, and whether its line names columns, as a
+    /// heading does.
     Field {
         column: &'a str,
         column_type: ColType,
         text: &'a [u8],
+        is_heading: bool,
     },
     /// A field that should name a column of a table, as far as that.
     Heading {
@@ -281,7 +283,7 @@ impl<'a> Sentence<'a> {
                 }
             }
             (CommandRefusal::BadCsv { line, column }, knowledge) => {
-                return write_fault_of_csv(line == 1 && column <= 1, knowledge, f);
+                return write_fault_of_csv(line, column, knowledge, f);
             }
             _ => return Ok(false),
         }
@@ -319,10 +321,12 @@ fn write_fault_of_rows<W: fmt::Write>(
 
 /// Writes what is wrong with a line of comma-separated values, or with one of its fields. Answers whether that is known.
 fn write_fault_of_csv<W: fmt::Write>(
-    is_first: bool,
+    line: u64,
+    column: u64,
     knowledge: Knowledge<'_>,
     f: &mut fmt::Formatter<W>,
 ) -> Result<bool, fmt::Error> {
+    let is_first = line == 1 && column <= 1;
     if let Some(said) = knowledge.beginning(is_first).and_then(of_no_csv) {
         f.write_str(said)?;
         return Ok(true);
@@ -330,10 +334,14 @@ fn write_fault_of_csv<W: fmt::Write>(
     match knowledge {
         Knowledge::Fields(fields) => write!(f, "{fields}")?,
         Knowledge::Field {
-            column,
+            is_heading: true,
+            ..
+        } => f.write_str(fault_of_heading_in(line))?,
+        Knowledge::Field {
             column_type,
             text,
-        } => write_fault_of_field(column, column_type, text, f)?,
+            ..
+        } => write_fault_of_field(column_type, text, f)?,
         Knowledge::Heading { text, schema } => write_fault_of_heading(text, schema, f)?,
         _ => return Ok(false),
     }
