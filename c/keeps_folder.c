@@ -49,26 +49,16 @@ static int is_there(uint64_t came) {
     return came == LANES_ON_DISK || came == LANES_UNSYNCED;
 }
 
-/* The parts of a folder, read and joined, and their names. If a part is gone meanwhile, all are listed anew. */
+/* The parts of a folder, read and joined, and their names. */
 static lanes_parts taken(const char *folder, lanes_part_names *names) {
-    static const uint8_t none;
-    for (int look = 0; look < TRIES; look++) {
-        lanes_parts parts = LANES_NO_PARTS;
-        lanes_place place;
-        uint64_t came;
-        size_t at;
-        int is_gone;
-        expect(lanes_folder_follow(folder, LANES_FOLDER_LIST, &none, 0, NULL, names, &came, &place), place);
-        uint8_t number = lanes_folder_take(folder, names, &parts, &is_gone, &at, &place);
-        if (number) {
-            tell(number, place);
-            fprintf(stderr, "%s/%s\n", folder, names->names[at]);
-            exit(1);
-        }
-        if (!is_gone) return parts;
-        free(names->names);
-    }
-    exit(2);
+    lanes_parts parts = LANES_NO_PARTS;
+    lanes_place place;
+    size_t at;
+    uint8_t number = lanes_folder_read(folder, &parts, names, &at, &place);
+    if (!number) return parts;
+    tell(number, place);
+    fprintf(stderr, "%s%s%s\n", folder, at < names->count ? "/" : "", at < names->count ? names->names[at] : "");
+    exit(1);
 }
 
 /* What all parts hold, as a table. */

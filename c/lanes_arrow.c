@@ -34,7 +34,10 @@ typedef struct {
 } source;
 
 /* Memory that is aligned, with room for at least one byte. */
-static void *aligned(size_t bytes) { return aligned_alloc(ALIGNED, (bytes / ALIGNED + 1) * ALIGNED); }
+static void *aligned(size_t bytes) {
+    void *at;
+    return posix_memalign(&at, ALIGNED, (bytes / ALIGNED + 1) * ALIGNED) ? NULL : at;
+}
 
 lanes_arrow_block *lanes_arrow_room(size_t rows, size_t columns) {
     size_t cells, bytes, bits, stride = 64 * (rows / 512 + (rows % 512 != 0));

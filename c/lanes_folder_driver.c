@@ -12,7 +12,7 @@
 #include <sys/stat.h>
 #include <unistd.h>
 
-/* How long a lock is waited for, in hundredths of a second. */
+/* How long a lock is waited for, or parts that come and go, in hundredths of a second. */
 enum { LONGEST_WAIT = 1000 };
 
 /* How much room there is for two names. */
@@ -37,9 +37,54 @@ typedef struct {
     uint64_t number;
 } told;
 
-static told failed(void) { return (told){LANES_FAILED, (uint64_t)errno}; }
+static told told_as(uint8_t answer, uint64_t number) {
+    told came = {answer, number};
+    return came;
+}
 
-static told done_if(int is_done) { return is_done ? (told){LANES_DONE, 0} : failed(); }
+static told failed(void) { return told_as(LANES_FAILED, (uint64_t)errno); }
+
+static told done_if(int is_done) { return is_done ? told_as(LANES_DONE, 0) : failed(); }
+
+/* A file system without locks, or without hard links. Any other error of the call is a fault. */
+static int has_no_locks(int error) { return error == ENOSYS || error == EOPNOTSUPP || error == ENOLCK; }
+
+static int has_no_links(int error) { return error == EPERM || error == EOPNOTSUPP || error == EMLINK; }
+
+/* A folder that this process could not sync once, and the error's number. A later sync may say that all is well, and what was not written then is
+ * lost all the same: the system tells it once. The folder is held open, so that no other one gets its number. */
+typedef struct unsynced {
+    dev_t device;
+    ino_t number;
+    int error;
+    struct unsynced *next;
+} unsynced;
+
+static unsynced *unsynced_folders;
+
+/* The same of all folders, if there was no memory to say of which. */
+static int unsynced_all;
+
+/* The number of the error of a sync of this folder that failed before, or 0. */
+static int why_unsynced(const struct stat *folder) {
+    for (const unsynced *one = __atomic_load_n(&unsynced_folders, __ATOMIC_SEQ_CST); one; one = one->next)
+        if (one->device == folder->st_dev && one->number == folder->st_ino) return one->error;
+    return __atomic_load_n(&unsynced_all, __ATOMIC_SEQ_CST);
+}
+
+static void note_unsynced(int folder, const struct stat *found, int error) {
+    unsynced *one = (unsynced *)malloc(sizeof *one);
+    if (!one) {
+        __atomic_store_n(&unsynced_all, error, __ATOMIC_SEQ_CST);
+        return;
+    }
+    one->device = found->st_dev;
+    one->number = found->st_ino;
+    one->error = error;
+    one->next = __atomic_load_n(&unsynced_folders, __ATOMIC_SEQ_CST);
+    while (!__atomic_compare_exchange_n(&unsynced_folders, &one->next, one, 1, __ATOMIC_SEQ_CST, __ATOMIC_SEQ_CST)) {}
+    if (fcntl(folder, F_DUPFD_CLOEXEC, 0) < 0) __atomic_store_n(&unsynced_all, error, __ATOMIC_SEQ_CST);
+}
 
 static void let_go(int *opened) {
     if (*opened >= 0) close(*opened);
@@ -53,22 +98,33 @@ static told make(driver *d) {
     d->file = openat(d->folder, d->names, O_WRONLY | O_CREAT | O_EXCL | O_CLOEXEC, 0666);
     if (d->file < 0) return failed();
     if (strlen(d->names) < sizeof d->temporary) memcpy(d->temporary, d->names, strlen(d->names) + 1);
-    int is_swept = flock(d->file, LOCK_EX | LOCK_NB) && errno == EWOULDBLOCK;
-    if (is_swept || fstat(d->file, &opened) || fstatat(d->folder, d->names, &named, AT_SYMLINK_NOFOLLOW) || opened.st_ino != named.st_ino)
-        return (told){LANES_FAILED, EEXIST};
-    return (told){LANES_DONE, 0};
+    int is_locked = !flock(d->file, LOCK_EX | LOCK_NB);
+    if (!is_locked && errno != EWOULDBLOCK && !has_no_locks(errno)) return failed();
+    int is_swept = !is_locked && errno == EWOULDBLOCK;
+    if (!is_swept && fstat(d->file, &opened)) return failed();
+    if (!is_swept && fstatat(d->folder, d->names, &named, AT_SYMLINK_NOFOLLOW)) {
+        if (errno != ENOENT) return failed();
+        is_swept = 1;
+    }
+    if (is_swept || opened.st_ino != named.st_ino) return told_as(LANES_FAILED, EEXIST);
+    return told_as(LANES_DONE, 0);
 }
 
 static told write_some(driver *d, uint64_t from) {
     ssize_t count;
     do count = write(d->file, d->part + from, d->part_length - (size_t)from);
     while (count < 0 && errno == EINTR);
-    return count < 0 ? failed() : (told){LANES_WROTE, (uint64_t)count};
+    return count < 0 ? failed() : told_as(LANES_WROTE, (uint64_t)count);
 }
 
+/* Gives the temporary the name of its part, by a rename if there are no hard links, if the name is free. */
 static told link_names(driver *d) {
-    if (!linkat(d->folder, d->names, d->folder, d->second, 0)) return (told){LANES_DONE, 0};
-    return errno == EEXIST ? (told){LANES_TAKEN, 0} : failed();
+    struct stat found;
+    if (!linkat(d->folder, d->names, d->folder, d->second, 0)) return told_as(LANES_DONE, 0);
+    if (errno == EEXIST) return told_as(LANES_TAKEN, 0);
+    if (!has_no_links(errno)) return failed();
+    if (!fstatat(d->folder, d->second, &found, AT_SYMLINK_NOFOLLOW)) return told_as(LANES_TAKEN, 0);
+    return done_if(errno == ENOENT && !renameat(d->folder, d->names, d->folder, d->second));
 }
 
 static told remove_name(driver *d) {
@@ -77,16 +133,27 @@ static told remove_name(driver *d) {
     return came;
 }
 
+static told settle(driver *d) {
+    struct stat found;
+    if (fstat(d->folder, &found)) return failed();
+    int error = why_unsynced(&found);
+    if (error) return told_as(LANES_FAILED, (uint64_t)error);
+    if (!fsync(d->folder)) return told_as(LANES_DONE, 0);
+    told fault = failed();
+    note_unsynced(d->folder, &found, (int)fault.number);
+    return fault;
+}
+
 /* Waits for the folder's lock. A file system without locks has none, so that nothing is removed there. */
 static told take_lock(driver *d, int kind) {
     d->lock = openat(d->folder, ".", O_RDONLY | O_DIRECTORY | O_CLOEXEC);
     if (d->lock < 0) return failed();
     for (int waited = 0; flock(d->lock, kind | LOCK_NB); waited++) {
-        if (errno != EWOULDBLOCK) return kind == LOCK_SH ? (told){LANES_DONE, 0} : failed();
-        if (waited == LONGEST_WAIT) return (told){LANES_FAILED, EAGAIN};
+        if (errno != EWOULDBLOCK) return kind == LOCK_SH && has_no_locks(errno) ? told_as(LANES_DONE, 0) : failed();
+        if (waited == LONGEST_WAIT) return told_as(LANES_FAILED, EAGAIN);
         usleep(10000);
     }
-    return (told){LANES_DONE, 0};
+    return told_as(LANES_DONE, 0);
 }
 
 static int is_part_name(const char *name) { return strlen(name) == LANES_PART_NAME - 1 && strspn(name, "0123456789abcdef") == 32 && !strcmp(name + 32, ".lanes"); }
@@ -101,7 +168,7 @@ static int add_names(driver *d, DIR *open) {
         struct stat found;
         if (!is_part_name(entry->d_name) || (!fstatat(d->folder, entry->d_name, &found, 0) && S_ISDIR(found.st_mode))) continue;
         if (!(d->listed.count & (d->listed.count - 1))) {
-            lanes_part_named *more = realloc(d->listed.names, (d->listed.count ? 2 * d->listed.count : 1) * sizeof *more);
+            lanes_part_named *more = (lanes_part_named *)realloc(d->listed.names, (d->listed.count ? 2 * d->listed.count : 1) * sizeof *more);
             if (!more) return 0;
             d->listed.names = more;
         }
@@ -115,11 +182,11 @@ static told list(driver *d) {
     lanes_place place;
     int again = openat(d->folder, ".", O_RDONLY | O_DIRECTORY | O_CLOEXEC);
     DIR *open = again < 0 ? NULL : fdopendir(again);
-    if (!open) return failed();
     d->listed.count = 0;
-    int is_done = add_names(d, open) && add_names(d, open);
+    int is_done = open && add_names(d, open) && add_names(d, open);
     told fault = failed();
-    closedir(open);
+    if (open) closedir(open);
+    else let_go(&again);
     if (!is_done) return fault;
     size_t kept = 0;
     if (d->listed.count) qsort(d->listed.names, d->listed.count, sizeof *d->listed.names, by_name);
@@ -127,8 +194,8 @@ static told list(driver *d) {
         if (!kept || strcmp(d->listed.names[i], d->listed.names[kept - 1])) memmove(d->listed.names[kept++], d->listed.names[i], LANES_PART_NAME);
     d->listed.count = kept;
     for (size_t i = 0; i < kept; i++)
-        if (lanes_folder_name((const uint8_t *)d->listed.names[i], LANES_PART_NAME - 1, d->turn, &place)) return (told){LANES_FAILED, ENOMEM};
-    return (told){LANES_LISTED, 0};
+        if (lanes_folder_name((const uint8_t *)d->listed.names[i], LANES_PART_NAME - 1, d->turn, &place)) return told_as(LANES_FAILED, ENOMEM);
+    return told_as(LANES_LISTED, 0);
 }
 
 /* Opens a file and reads it whole; it is the open file then. */
@@ -136,18 +203,19 @@ static told read_file(driver *d) {
     struct stat found;
     let_go(&d->file);
     d->file = openat(d->folder, d->names, O_RDONLY | O_CLOEXEC | O_NONBLOCK);
-    if (d->file < 0) return errno == ENOENT && fstatat(d->folder, d->names, &found, AT_SYMLINK_NOFOLLOW) ? (told){LANES_NO_FILE, 0} : failed();
+    if (d->file < 0) return errno == ENOENT && fstatat(d->folder, d->names, &found, AT_SYMLINK_NOFOLLOW) ? told_as(LANES_NO_FILE, 0) : failed();
     if (fstat(d->file, &found)) return failed();
+    if (!S_ISREG(found.st_mode)) return told_as(LANES_FAILED, EINVAL); /* a pipe, for one */
     free(d->found);
     d->found_length = 0;
-    d->found = malloc((size_t)found.st_size + 1);
-    if (!d->found) return (told){LANES_FAILED, ENOMEM};
+    d->found = (uint8_t *)malloc((size_t)found.st_size + 1);
+    if (!d->found) return told_as(LANES_FAILED, ENOMEM);
     for (;;) {
         ssize_t count = read(d->file, d->found + d->found_length, (size_t)found.st_size + 1 - d->found_length);
         if (count < 0 && errno == EINTR) continue;
         if (count < 0) return failed();
         d->found_length += (size_t)count;
-        if (!count || d->found_length > (size_t)found.st_size) return (told){LANES_FOUND, 0};
+        if (!count || d->found_length > (size_t)found.st_size) return told_as(LANES_FOUND, 0);
     }
 }
 
@@ -159,12 +227,12 @@ static told make_call(driver *d, lanes_call call) {
     case LANES_CALL_SYNC: return done_if(!fsync(d->file));
     case LANES_CALL_LINK: return link_names(d);
     case LANES_CALL_REMOVE: return remove_name(d);
-    case LANES_CALL_SETTLE: return done_if(!fsync(d->folder));
+    case LANES_CALL_SETTLE: return settle(d);
     case LANES_CALL_LOCK: return take_lock(d, LOCK_EX);
     case LANES_CALL_LOCK_SHARED: return take_lock(d, LOCK_SH);
     case LANES_CALL_LIST: return list(d);
     case LANES_CALL_READ: return read_file(d);
-    default: let_go(&d->lock); return (told){LANES_DONE, 0};
+    default: let_go(&d->lock); return told_as(LANES_DONE, 0);
     }
 }
 
@@ -178,7 +246,7 @@ static void part_names(driver *d, lanes_call call, size_t length) {
 
 /* Makes one call after another. */
 static uint8_t drive(driver *d, uint64_t *came, lanes_place *place) {
-    static const uint8_t no_bytes;
+    static const uint8_t no_bytes = 0;
     told last = {LANES_NOTHING, 0};
     for (;;) {
         lanes_call call;
@@ -196,9 +264,19 @@ static uint8_t drive(driver *d, uint64_t *came, lanes_place *place) {
 }
 
 /* The system's reason why a call failed, as a refusal. */
-static uint8_t refused_by_system(lanes_place *place) {
-    *place = (lanes_place){(uint64_t)errno, 0};
+static uint8_t refused_by_system(uint64_t reason, lanes_place *place) {
+    place->first = reason;
+    place->second = 0;
     return LANES_SYSTEM;
+}
+
+/* Opens the folder of a path, which is all that is open at first. */
+static driver driver_in(const char *path) {
+    driver d;
+    memset(&d, 0, sizeof d);
+    d.folder = open(path, O_RDONLY | O_DIRECTORY | O_CLOEXEC);
+    d.file = d.lock = -1;
+    return d;
 }
 
 uint8_t lanes_folder_draw(lanes_temporary name, lanes_place *place) {
@@ -206,16 +284,19 @@ uint8_t lanes_folder_draw(lanes_temporary name, lanes_place *place) {
     int file = open("/dev/urandom", O_RDONLY | O_CLOEXEC);
     int is_drawn = file >= 0 && read(file, &number, sizeof number) == (ssize_t)sizeof number;
     let_go(&file);
-    if (!is_drawn) return refused_by_system(place);
+    if (!is_drawn) return refused_by_system((uint64_t)errno, place);
     snprintf(name, sizeof(lanes_temporary), ".part-%016llx", (unsigned long long)number);
     return 0;
 }
 
 uint8_t lanes_folder_drive(const char *path, lanes_turn *turn, const uint8_t *part, size_t part_length, lanes_part_names *listed, uint64_t *came,
                            lanes_place *place) {
-    driver d = {.folder = open(path, O_RDONLY | O_DIRECTORY | O_CLOEXEC), .file = -1, .lock = -1, .part = part, .part_length = part_length, .turn = turn};
+    driver d = driver_in(path);
+    d.part = part;
+    d.part_length = part_length;
+    d.turn = turn;
     *came = 0;
-    uint8_t number = d.folder < 0 ? refused_by_system(place) : drive(&d, came, place);
+    uint8_t number = d.folder < 0 ? refused_by_system((uint64_t)errno, place) : drive(&d, came, place);
     lanes_folder_end(turn);
     if (d.temporary[0]) unlinkat(d.folder, d.temporary, 0);
     if (listed && !number) {
@@ -245,19 +326,16 @@ uint8_t lanes_folder_follow(const char *path, uint8_t command, const uint8_t *pa
 }
 
 uint8_t lanes_folder_take(const char *path, const lanes_part_names *names, lanes_parts *parts, int *is_gone, size_t *at, lanes_place *place) {
-    driver d = {.folder = open(path, O_RDONLY | O_DIRECTORY | O_CLOEXEC), .file = -1, .lock = -1};
-    uint8_t number = d.folder < 0 ? refused_by_system(place) : 0;
+    driver d = driver_in(path);
+    uint8_t number = d.folder < 0 ? refused_by_system((uint64_t)errno, place) : 0;
     *is_gone = 0;
-    *at = 0;
+    *at = number ? names->count : 0;
     for (size_t i = 0; !number && !*is_gone && i < names->count; i++) {
         *at = i;
         memcpy(d.names, names->names[i], LANES_PART_NAME);
         told found = read_file(&d);
         *is_gone = found.answer == LANES_NO_FILE;
-        if (found.answer == LANES_FAILED) {
-            *place = (lanes_place){found.number, 0};
-            number = LANES_SYSTEM;
-        }
+        if (found.answer == LANES_FAILED) number = refused_by_system(found.number, place);
         if (found.answer == LANES_FOUND) number = lanes_parts_take(parts, (const uint8_t *)d.names, LANES_PART_NAME - 1, d.found, d.found_length, place);
     }
     if (number || *is_gone) lanes_parts_close(parts);
@@ -265,4 +343,26 @@ uint8_t lanes_folder_take(const char *path, const lanes_part_names *names, lanes
     let_go(&d.file);
     let_go(&d.folder);
     return number;
+}
+
+uint8_t lanes_folder_read(const char *path, lanes_parts *parts, lanes_part_names *names, size_t *at, lanes_place *place) {
+    static const uint8_t none = 0;
+    static const lanes_part_names no_names = {NULL, 0};
+    for (int look = 0;; look++) {
+        uint64_t came;
+        int is_gone;
+        *names = no_names;
+        *at = 0;
+        uint8_t number = lanes_folder_follow(path, LANES_FOLDER_LIST, &none, 0, NULL, names, &came, place);
+        if (number) return number;
+        number = lanes_folder_take(path, names, parts, &is_gone, at, place);
+        if (number || !is_gone) return number;
+        free(names->names);
+        if (look == LONGEST_WAIT) break;
+        usleep(10000);
+    }
+    *names = no_names;
+    *at = 0;
+    place->first = place->second = 0;
+    return LANES_BUSY;
 }

@@ -4,6 +4,10 @@
 
 #include "lanes.h"
 
+#ifdef __cplusplus
+extern "C" {
+#endif
+
 /* How many bytes the name of a part has, and one more. */
 enum { LANES_PART_NAME = 39 };
 
@@ -28,9 +32,15 @@ uint8_t lanes_folder_drive(const char *path, lanes_turn *turn, const uint8_t *pa
                            lanes_place *place);
 
 /* Reads the parts of these names in the folder of a path, and takes them into a handle that is closed. *is_gone is 1 if one of them is gone
- * meanwhile, so that they are to be listed anew; else it is 0. *at is the part that was refused or is gone. Answers 0, or the number of a refusal,
+ * meanwhile, so that they are to be listed anew; else it is 0. *at is the part that was refused or is gone, or the number of names if the folder can't be opened. Answers 0, or the number of a refusal,
  * with its place; the handle is closed then, and if a part is gone. */
 uint8_t lanes_folder_take(const char *path, const lanes_part_names *names, lanes_parts *parts, int *is_gone, size_t *at, lanes_place *place);
+
+/* Reads all parts of the folder of a path into a handle that is closed, anew if one of them is gone meanwhile, since another process packs. Nothing is
+ * written. `names` are given the parts' names; free() frees them, also if it is refused. Answers 0, or the number of a refusal, with its place: of
+ * the part `*at` of `names`, or of the folder if that has fewer. LANES_BUSY is answered if others have the folder, or parts come and go, for ten
+ * seconds. A folder without parts is no replica: then no part is taken. */
+uint8_t lanes_folder_read(const char *path, lanes_parts *parts, lanes_part_names *names, size_t *at, lanes_place *place);
 
 /* Follows a command of lanes.h in the folder of a path. `about` are the parts that are replaced, removed or kept, or that were looked at; it may
  * be null, for none.
@@ -39,5 +49,9 @@ uint8_t lanes_folder_take(const char *path, const lanes_part_names *names, lanes
  * Answers 0, and in *came what the command has come to, as LANES_ON_DISK; or the number of a refusal, with its place. */
 uint8_t lanes_folder_follow(const char *path, uint8_t command, const uint8_t *part, size_t part_length, const lanes_part_names *about,
                             lanes_part_names *listed, uint64_t *came, lanes_place *place);
+
+#ifdef __cplusplus
+}
+#endif
 
 #endif

@@ -5,23 +5,29 @@
  *     CREATE VIRTUAL TABLE temp.by_site USING lanes('visits.lanes', 'SELECT SITE,SUM(HITS) AS HITS FROM VISITS GROUP BY SITE');
  *     SELECT name, hits FROM by_site JOIN sites ON sites.id = by_site.site ORDER BY hits DESC;
  *
- * Tables are read only. A statement opens the file at its first scan of the table, and closes it with its last cursor. So all its scans
- * see one state, whatever other statements do meanwhile, and name a row by the same rowid: its place among the live rows. Of
- * rows, columns that a statement doesn't use aren't read. Comparisons of a column with an
- * integer go down as a condition, and those of the rowid as the rows that are given; SQLite judges them once more.
+ * Tables are read only. A statement looks at the file at its first scan of the table. If it is the one that is open, unchanged, that is
+ * asked, and otherwise it is opened anew. So all scans of a statement see one state, whatever other statements do meanwhile, and name a row
+ * by the same rowid: its place among the live rows. Of rows, columns that a statement doesn't use aren't read. Comparisons of a column with
+ * an integer go down as a condition, those of the rowid as the rows that are given, and ORDER BY rowid as the order; SQLite judges the
+ * comparisons once more.
+ *
+ * A sum of an answer may have more than 64 bits, which SQLite has no number for. A statement that reads one is refused, unless a last
+ * argument of the table says what is given for it: sums='text' gives its digits, and sums='real' the nearest float.
  *
  * c/build makes it, with the library inside. */
 #include <sqlite3ext.h>
 SQLITE_EXTENSION_INIT1
 
 #include "lanes.h"
-#include "lanes_folder.h"
+#include "lanes_folder_driver.h"
 
+#include <errno.h>
 #include <fcntl.h>
 #include <stdlib.h>
 #include <string.h>
 #include <sys/mman.h>
 #include <sys/stat.h>
+#include <time.h>
 #include <unistd.h>
 
 /* How many columns a table has at most. */
@@ -62,35 +68,50 @@ typedef struct {
     int at[COLUMNS]; /* which of the columns that were read a column is */
 } block;
 
-/* What a statement sees. It is opened at the statement's first scan, and closed with its last cursor. */
-typedef struct state {
-    struct state *next;
-    sqlite3_value **statement; /* SQLite gives all scans of a statement the same array of arguments, and no other statement has it */
+/* What a file or a folder holds. It stays open until another one is seen in its place, and while a statement sees it. */
+typedef struct {
     int users;
     int file; /* is open so that no other file gets its number; -1 of a folder */
     struct stat found;
+    int is_settled;         /* a later change of the file gives it another time */
+    lanes_part_names names; /* the parts of a folder */
     lanes_table table;
     size_t batches;
     block *kept;        /* what was read last */
     size_t *live;       /* how many live rows come before each batch and after the last one, once that was asked for */
     char *answer;       /* the text of the answer, once it was asked for */
-    const char **lines; /* where its lines begin, from the first after the headings, and where it ends */
+    const char **lines; /* the beginnings of its lines, from the first after the headings, and its end */
     size_t count;       /* how many such lines there are */
 } state;
+
+/* What a statement sees. */
+typedef struct view {
+    struct view *next;
+    sqlite3_value **statement; /* SQLite gives all scans of a statement the same array of arguments, and no other statement has it */
+    int users;
+    state *seen;
+} view;
+
+/* What is given for a sum past 64 bits. */
+enum { SUMS_REFUSED, SUMS_TEXT, SUMS_REAL };
 
 typedef struct {
     sqlite3_vtab base;
     char *path, *sql; /* sql is null if the table is of rows */
     int columns;
     char *names[COLUMNS];
+    int sums;
     sqlite3_int64 live;
-    state *states;
+    state *opened; /* what was seen last */
+    view *views;
 } vtab;
 
 typedef struct {
     sqlite3_vtab_cursor base;
+    view *view;
     state *seen;
-    size_t at; /* a row of the block, or a line of the answer */
+    int is_reversed; /* whether rows are given from the last one on */
+    size_t at;       /* a row of the block, or a line of the answer; SIZE_MAX before the first one */
     /* rows */
     block *rows;
     int is_read; /* whether the scan has read a block */
@@ -103,7 +124,7 @@ typedef struct {
     test *tests;
     size_t *places; /* of a block with a condition: which of its batches' live rows its rows are, once that was asked for */
     /* an answer */
-    const char **fields; /* where the fields of the line begin, and where it ends */
+    const char **fields; /* the beginnings of the fields of the line, and its end */
 } cursor;
 
 /* Sets a table's message. */
@@ -120,7 +141,7 @@ static int refuse(vtab *v, const char *path, uint8_t number, const lanes_place *
     return fault(v, SQLITE_ERROR, sqlite3_mprintf("lanes: %s: %.*s: %.*s", path, names, name, letters, sentence));
 }
 
-static int unreadable(vtab *v, const char *path) { return fault(v, SQLITE_CANTOPEN, sqlite3_mprintf("lanes: %s can't be read", path)); }
+static int unreadable(vtab *v, const char *why) { return fault(v, SQLITE_CANTOPEN, sqlite3_mprintf("lanes: %s can't be read: %s", v->path, why)); }
 
 /* Blocks. */
 
@@ -252,12 +273,15 @@ static void find_fields(cursor *c) {
 /* States. */
 
 static void close_state(state *s) {
+    if (!s || --s->users) return;
     leave_block(s->kept);
+    free(s->names.names);
     free(s->live);
     free(s->answer);
     free(s->lines);
     lanes_close(&s->table);
     if (s->file >= 0) close(s->file);
+    free(s);
 }
 
 static int open_bytes(vtab *v, const void *bytes, size_t length, state *s) {
@@ -266,26 +290,29 @@ static int open_bytes(vtab *v, const void *bytes, size_t length, state *s) {
     return number ? refuse(v, v->path, number, &place) : SQLITE_OK;
 }
 
-/* Says why a folder isn't read. */
-static int refuse_folder(vtab *v, const lanes_folder_fault *why) {
-    switch (why->why) {
-    case LANES_FOLDER_REFUSED: return refuse(v, why->path, why->number, &why->place);
-    case LANES_FOLDER_EMPTY: return fault(v, SQLITE_CANTOPEN, sqlite3_mprintf("lanes: %s has no part, so it is no replica", why->path));
-    case LANES_FOLDER_BUSY: return fault(v, SQLITE_BUSY, sqlite3_mprintf("lanes: %s: Busy: others have the folder, or parts come and go", why->path));
-    case LANES_FOLDER_MEMORY: return SQLITE_NOMEM;
-    default: return unreadable(v, why->path);
-    }
+/* Says why a folder, or a part of it, isn't read. */
+static int refuse_folder(vtab *v, const char *name, uint8_t number, const lanes_place *place) {
+    char *path = sqlite3_mprintf("%s%s%s", v->path, *name ? "/" : "", name);
+    if (!path) return SQLITE_NOMEM;
+    int code;
+    if (number == LANES_BUSY) code = fault(v, SQLITE_BUSY, sqlite3_mprintf("lanes: %s: Busy: others have the folder, or parts come and go", path));
+    else if (number == LANES_SYSTEM && place->first == ENOMEM) code = SQLITE_NOMEM;
+    else if (number == LANES_SYSTEM) code = fault(v, SQLITE_CANTOPEN, sqlite3_mprintf("lanes: %s can't be read: %s", path, strerror((int)place->first)));
+    else code = refuse(v, path, number, place);
+    sqlite3_free(path);
+    return code;
 }
 
 /* Opens what the parts of a folder hold together. */
 static int open_folder(vtab *v, state *s) {
-    lanes_folder_fault why;
-    size_t length;
-    uint8_t *bytes = lanes_folder_read(v->path, &length, &why);
-    if (!bytes) return refuse_folder(v, &why);
-    int code = open_bytes(v, bytes, length, s);
-    free(bytes);
-    return code;
+    lanes_parts parts = LANES_NO_PARTS;
+    lanes_place place;
+    size_t at;
+    uint8_t number = lanes_folder_read(v->path, &parts, &s->names, &at, &place);
+    const char *name = number && at < s->names.count ? s->names.names[at] : "";
+    if (!number && s->names.count) number = lanes_parts_open(&parts, &s->table, &place);
+    if (number) return refuse_folder(v, name, number, &place);
+    return s->names.count ? SQLITE_OK : fault(v, SQLITE_CANTOPEN, sqlite3_mprintf("lanes: %s has no part, so it is no replica", v->path));
 }
 
 /* Whether two files are one, which was not written to meanwhile. */
@@ -293,13 +320,17 @@ static int is_same_file(const struct stat *a, const struct stat *b) {
     return a->st_dev == b->st_dev && a->st_ino == b->st_ino && a->st_size == b->st_size && a->st_mtim.tv_sec == b->st_mtim.tv_sec && a->st_mtim.tv_nsec == b->st_mtim.tv_nsec && a->st_ctim.tv_sec == b->st_ctim.tv_sec && a->st_ctim.tv_nsec == b->st_ctim.tv_nsec;
 }
 
-/* Opens the file as it is. What another statement has open of it is shared. */
+/* Whether a file was last changed so long ago that another change gives it another time: file systems count in ticks. */
+static int is_settled(const struct stat *found) {
+    struct timespec now;
+    return !clock_gettime(CLOCK_REALTIME, &now) && found->st_ctim.tv_sec + 1 < now.tv_sec;
+}
+
+/* Opens the file as it is. */
 static int open_file(vtab *v, state *s) {
-    for (state *other = v->states; other; other = other->next)
-        if (other->file >= 0 && is_same_file(&other->found, &s->found)) return lanes_share(&other->table, &s->table) ? SQLITE_NOMEM : SQLITE_OK;
     size_t length = (size_t)s->found.st_size;
     void *bytes = length ? mmap(NULL, length, PROT_READ, MAP_PRIVATE, s->file, 0) : "";
-    if (bytes == MAP_FAILED) return unreadable(v, v->path);
+    if (bytes == MAP_FAILED) return unreadable(v, strerror(errno));
     int code = open_bytes(v, bytes, length, s);
     if (length) munmap(bytes, length);
     return code;
@@ -307,15 +338,16 @@ static int open_file(vtab *v, state *s) {
 
 /* Opens a state that is zero: what the file, or the folder, holds now. */
 static int open_state(vtab *v, state *s) {
-    s->file = open(v->path, O_RDONLY | O_CLOEXEC);
-    if (s->file < 0 || fstat(s->file, &s->found)) return unreadable(v, v->path);
+    s->file = open(v->path, O_RDONLY | O_CLOEXEC | O_NONBLOCK);
+    if (s->file < 0 || fstat(s->file, &s->found)) return unreadable(v, strerror(errno));
+    s->is_settled = is_settled(&s->found);
     int code = SQLITE_OK;
     if (S_ISDIR(s->found.st_mode)) {
         close(s->file);
         s->file = -1;
         code = open_folder(v, s);
     } else {
-        code = S_ISREG(s->found.st_mode) ? open_file(v, s) : unreadable(v, v->path);
+        code = S_ISREG(s->found.st_mode) ? open_file(v, s) : unreadable(v, "it is neither a regular file nor a folder");
     }
     s->batches = lanes_batches(&s->table);
     return code;
@@ -324,40 +356,90 @@ static int open_state(vtab *v, state *s) {
 /* Whether the file has the columns that were declared, as another one in its place may not. */
 static int has_columns(vtab *v, state *s) {
     block none = {.users = 1, .used = v->columns < COLUMNS ? (1u << v->columns) - 1 : ~0u, .condition = ""};
-    return v->sql ? SQLITE_OK : fill_block(v, s, &none);
+    return v->sql || !v->columns ? SQLITE_OK : fill_block(v, s, &none);
+}
+
+static int compare_names(const void *one, const void *other) { return memcmp(one, other, LANES_PART_NAME); }
+
+/* Whether two lists have the same names of parts. They are sorted. */
+static int are_same_names(lanes_part_names *one, lanes_part_names *other) {
+    if (one->count != other->count) return 0;
+    qsort(one->names, one->count, LANES_PART_NAME, compare_names);
+    qsort(other->names, other->count, LANES_PART_NAME, compare_names);
+    return !memcmp(one->names, other->names, one->count * LANES_PART_NAME);
+}
+
+/* Tells whether a state is what the file or the folder holds now: a part's bytes are those of its name. */
+static int look(vtab *v, state *s, int *is_current) {
+    static const uint8_t none = 0;
+    lanes_part_names names = {NULL, 0};
+    struct stat now;
+    lanes_place place;
+    uint64_t came;
+    *is_current = 0;
+    if (!s || stat(v->path, &now)) return SQLITE_OK;
+    if (s->file >= 0) {
+        *is_current = s->is_settled && is_same_file(&now, &s->found);
+        return SQLITE_OK;
+    }
+    if (!S_ISDIR(now.st_mode)) return SQLITE_OK;
+    uint8_t number = lanes_folder_follow(v->path, LANES_FOLDER_LIST, &none, 0, NULL, &names, &came, &place);
+    *is_current = !number && names.count && are_same_names(&names, &s->names);
+    free(names.names);
+    return number ? refuse_folder(v, "", number, &place) : SQLITE_OK;
+}
+
+/* Sees to it that what is open is what the file or the folder holds now. */
+static int open_current(vtab *v) {
+    int is_current, code = look(v, v->opened, &is_current);
+    if (code || is_current) return code;
+    state *s = calloc(1, sizeof *s);
+    if (!s) return SQLITE_NOMEM;
+    s->users = 1;
+    s->file = -1;
+    code = open_state(v, s);
+    if (!code) code = has_columns(v, s);
+    if (code) {
+        close_state(s);
+        return code;
+    }
+    close_state(v->opened);
+    v->opened = s;
+    return SQLITE_OK;
 }
 
 /* Gives a cursor what its statement sees. */
 static int see(vtab *v, cursor *c, sqlite3_value **statement) {
     if (c->seen) return SQLITE_OK;
-    for (state *s = v->states; s && !c->seen; s = s->next)
-        if (s->statement == statement) c->seen = s;
-    if (!c->seen) {
-        state *s = calloc(1, sizeof *s);
-        if (!s) return SQLITE_NOMEM;
-        int code = open_state(v, s);
-        if (!code) code = has_columns(v, s);
-        if (code) {
-            close_state(s);
-            free(s);
-            return code;
-        }
-        s->statement = statement;
-        s->next = v->states;
-        c->seen = v->states = s;
+    view *found = v->views;
+    while (found && found->statement != statement) found = found->next;
+    if (!found) {
+        int code = open_current(v);
+        if (code) return code;
+        found = calloc(1, sizeof *found);
+        if (!found) return SQLITE_NOMEM;
+        *found = (view){v->views, statement, 0, v->opened};
+        v->opened->users++;
+        v->views = found;
     }
-    c->seen->users++;
+    found->users++;
+    c->view = found;
+    c->seen = found->seen;
     return SQLITE_OK;
 }
 
-/* Takes that from a cursor. */
+/* Takes that from a cursor. A large block goes with the last one of its statement. */
 static void look_away(vtab *v, cursor *c) {
-    if (!c->seen || --c->seen->users) return;
-    state **at = &v->states;
-    while (*at != c->seen) at = &(*at)->next;
-    *at = c->seen->next;
+    if (!c->seen || --c->view->users) return;
+    view **at = &v->views;
+    while (*at != c->view) at = &(*at)->next;
+    *at = c->view->next;
+    free(c->view);
+    if (c->seen->kept && c->seen->kept->rows > ENOUGH) {
+        leave_block(c->seen->kept);
+        c->seen->kept = NULL;
+    }
     close_state(c->seen);
-    free(c->seen);
 }
 
 /* Finds how many live rows come before each batch, if that isn't known. */
@@ -413,6 +495,7 @@ static char *unquoted(const char *word) {
 
 static int disconnect(sqlite3_vtab *base) {
     vtab *v = (vtab *)base;
+    close_state(v->opened);
     for (int c = 0; c < COLUMNS; c++) sqlite3_free(v->names[c]);
     sqlite3_free(v->path);
     sqlite3_free(v->sql);
@@ -459,12 +542,10 @@ static int declare_rows(vtab *v, state *s, sqlite3_str *text) {
 }
 
 static int declare(sqlite3 *db, vtab *v) {
-    state now = {.file = -1};
     sqlite3_str *text = sqlite3_str_new(db);
     sqlite3_str_appendall(text, "CREATE TABLE x(");
-    int code = open_state(v, &now);
-    if (!code) code = v->sql ? declare_answer(v, &now, text) : declare_rows(v, &now, text);
-    close_state(&now);
+    int code = open_current(v);
+    if (!code) code = v->sql ? declare_answer(v, v->opened, text) : declare_rows(v, v->opened, text);
     sqlite3_str_appendall(text, ")");
     char *declaration = sqlite3_str_finish(text);
     if (!code) code = declaration ? sqlite3_declare_vtab(db, declaration) : SQLITE_NOMEM;
@@ -472,15 +553,33 @@ static int declare(sqlite3 *db, vtab *v) {
     return code;
 }
 
+/* What an argument says that is given for a sum past 64 bits; -1 if it says nothing of it. */
+static int sums_of(const char *word) {
+    static const char *const words[] = {[SUMS_TEXT] = "text", [SUMS_REAL] = "real"};
+    if (sqlite3_strnicmp(word, "sums", 4)) return -1;
+    for (word += 4; *word == ' '; word++) {}
+    if (*word++ != '=') return -1;
+    while (*word == ' ') word++;
+    char *said = unquoted(word);
+    int found = SUMS_REFUSED;
+    for (int i = SUMS_TEXT; said && i <= SUMS_REAL; i++)
+        if (!sqlite3_stricmp(said, words[i])) found = i;
+    sqlite3_free(said);
+    return found;
+}
+
 static int connect(sqlite3 *db, void *with, int count, const char *const *words, sqlite3_vtab **out, char **message) {
     (void)with;
+    int sums = count > 5 ? sums_of(words[count - 1]) : SUMS_REFUSED;
+    if (sums > SUMS_REFUSED) count--;
     if (count < 4 || count > 5) {
-        *message = sqlite3_mprintf("lanes: a file is wanted, and then a query or nothing: USING lanes('FILE', 'SELECT ..')");
+        *message = sqlite3_mprintf("lanes: a file is wanted, and then a query or nothing: USING lanes('FILE', 'SELECT ..'), and after a query sums='text' or sums='real'");
         return SQLITE_ERROR;
     }
     vtab *v = sqlite3_malloc64(sizeof *v);
     if (!v) return SQLITE_NOMEM;
     memset(v, 0, sizeof *v);
+    v->sums = sums;
     v->path = unquoted(words[3]);
     if (count == 5) v->sql = unquoted(words[4]);
     int code = v->path && (count == 4 || v->sql) ? declare(db, v) : SQLITE_NOMEM;
@@ -498,15 +597,17 @@ static int create(sqlite3 *db, void *with, int count, const char *const *words, 
     return connect(db, with, count, words, out, message);
 }
 
-/* Plans. idxNum has the columns that are used, a bit each, and idxStr of each comparison that goes down a letter for its column, from '@',
- * and a digit. The rowid's letter is the one before. */
+/* Plans. idxNum has the columns that are used, a bit each. idxStr begins with < if the last row comes first, and otherwise with >, and has of
+ * each comparison that goes down a letter for its column, from '@', and a digit. The rowid's letter is the one before. */
 #define ROWID (-1)
 
 static int best_index(sqlite3_vtab *base, sqlite3_index_info *info) {
     vtab *v = (vtab *)base;
     double rows = (double)v->live, read = (double)v->live;
     int taken = 0;
+    int is_ordered = info->nOrderBy == 1 && info->aOrderBy[0].iColumn == ROWID;
     sqlite3_str *plan = sqlite3_str_new(NULL);
+    sqlite3_str_appendall(plan, is_ordered && info->aOrderBy[0].desc ? "<" : ">");
     for (int k = 0; k < info->nConstraint; k++) {
         int column = info->aConstraint[k].iColumn;
         if (!info->aConstraint[k].usable || (v->sql && column != ROWID)) continue;
@@ -523,6 +624,7 @@ static int best_index(sqlite3_vtab *base, sqlite3_index_info *info) {
             info->idxFlags = SQLITE_INDEX_SCAN_UNIQUE;
         }
     }
+    info->orderByConsumed = is_ordered;
     info->idxNum = (int)(unsigned)info->colUsed;
     info->idxStr = sqlite3_str_finish(plan);
     info->needToFreeIdxStr = 1;
@@ -618,6 +720,28 @@ static int read_on(cursor *c) {
     return SQLITE_OK;
 }
 
+/* Reads back until there is a row, or no batch is left. */
+static int read_back(cursor *c) {
+    vtab *v = (vtab *)c->base.pVtab;
+    while (c->at >= (c->is_read ? c->rows->rows : 0) && c->next < c->end) {
+        size_t most = c->end - c->next < c->step ? c->end - c->next : c->step;
+        int code = read_block(v, c->seen, c->used, c->condition, c->end - most, most, &c->rows);
+        if (code) return code;
+        c->at = SIZE_MAX;
+        c->is_read = 1;
+        free(c->places);
+        c->places = NULL;
+        if (c->rows->batches < most) { /* they have many rows: fewer batches are read, up to the same end */
+            c->step = c->rows->batches;
+            continue;
+        }
+        c->at = c->rows->rows - 1;
+        c->end -= most;
+        if (c->rows->rows < ENOUGH) c->step *= 2;
+    }
+    return SQLITE_OK;
+}
+
 /* Begins a scan of rows. */
 static int scan(cursor *c) {
     vtab *v = (vtab *)c->base.pVtab;
@@ -630,7 +754,7 @@ static int scan(cursor *c) {
     sqlite3_free(c->condition);
     c->condition = condition_of(v, c);
     if (!c->condition) return SQLITE_NOMEM;
-    if (c->low <= 0 && c->high == INT64_MAX) return read_on(c);
+    if (c->low <= 0 && c->high == INT64_MAX) return c->is_reversed ? read_back(c) : read_on(c);
     int code = count_live(v, s);
     if (code) return code;
     size_t rows = s->live[s->batches];
@@ -639,45 +763,59 @@ static int scan(cursor *c) {
     c->next = batch_of(s, (size_t)c->low);
     c->end = batch_of(s, (size_t)c->high < rows ? (size_t)c->high : rows - 1) + 1;
     c->step = 1;
-    code = read_on(c);
-    if (!code && !c->count) c->at = (size_t)c->low - s->live[c->rows->first];
-    return code;
+    code = c->is_reversed ? read_back(c) : read_on(c);
+    if (code || c->count) return code;
+    if (!c->is_reversed) c->at = (size_t)c->low - s->live[c->rows->first];
+    else if ((size_t)c->high < rows) c->at = (size_t)c->high - s->live[c->rows->first];
+    return SQLITE_OK;
 }
 
 static int filter(sqlite3_vtab_cursor *base, int used, const char *plan, int count, sqlite3_value **arguments) {
     cursor *c = (cursor *)base;
     vtab *v = (vtab *)base->pVtab;
     int code = see(v, c, arguments);
-    if (!code) code = take_tests(c, plan, count, arguments);
+    if (!code) code = take_tests(c, plan + 1, count, arguments);
     if (code) return code;
+    c->is_reversed = *plan == '<';
     c->used = (unsigned)used;
     if (!v->sql) return scan(c);
     code = ask(v, c->seen);
-    c->at = c->low > c->high || (size_t)c->low > c->seen->count ? c->seen->count : (size_t)c->low;
-    if (!code) find_fields(c);
-    return code;
+    if (code) return code;
+    size_t lines = c->seen->count;
+    c->at = c->low > c->high || (size_t)c->low > lines ? lines : (size_t)c->low;
+    if (c->is_reversed && c->at < lines) c->at = (size_t)c->high < lines ? (size_t)c->high : lines - 1;
+    find_fields(c);
+    return SQLITE_OK;
 }
 
 static int next(sqlite3_vtab_cursor *base) {
     cursor *c = (cursor *)base;
-    c->at++;
-    if (!((vtab *)base->pVtab)->sql) return read_on(c);
+    c->at += c->is_reversed ? SIZE_MAX : 1;
+    if (!((vtab *)base->pVtab)->sql) return c->is_reversed ? read_back(c) : read_on(c);
     find_fields(c);
     return SQLITE_OK;
 }
 
 static int is_at_end(sqlite3_vtab_cursor *base) {
     cursor *c = (cursor *)base;
-    if (((vtab *)base->pVtab)->sql) return c->at >= c->seen->count || (sqlite3_int64)c->at > c->high;
+    if (((vtab *)base->pVtab)->sql) return c->at >= c->seen->count || (sqlite3_int64)c->at > c->high || (sqlite3_int64)c->at < c->low;
     if (!c->is_read || c->at >= c->rows->rows) return 1;
-    return !c->count && c->high < INT64_MAX && (sqlite3_int64)(c->seen->live[c->rows->first] + c->at) > c->high;
+    if (c->count || (c->low <= 0 && c->high == INT64_MAX)) return 0;
+    sqlite3_int64 row = (sqlite3_int64)(c->seen->live[c->rows->first] + c->at);
+    return row > c->high || row < c->low;
 }
 
-/* Gives a field of an answer: a whole number, as text if it has more than 64 bits; a mean as a float; or a null. */
-static void give_field(sqlite3_context *context, const char *field, const char *end) {
+/* What is said of a sum past 64 bits. */
+static int refuse_sum(vtab *v, const char *field, const char *end) {
+    char *words = sqlite3_mprintf("lanes: %.*s has more than 64 bits, which SQLite has no number for: USING lanes('FILE', 'SELECT ..', sums='text') gives its digits, and sums='real' the nearest float", (int)(end - field), field);
+    return fault(v, SQLITE_ERROR, words);
+}
+
+/* Gives a field of an answer: a whole number, a mean as a float, or a null; and for a number past 64 bits what the table's arguments say. */
+static int give_field(vtab *v, sqlite3_context *context, const char *field, const char *end) {
     int is_negative = *field == '-', is_mean = 0;
     unsigned __int128 number = 0, most = (unsigned __int128)INT64_MAX + (unsigned)is_negative;
-    if (*field == 'N') return;
+    if (*field == 'N') return SQLITE_OK;
     for (const char *at = field + is_negative; at < end; at++) {
         if (*at == '.') is_mean = 1;
         else number = 10 * number + (unsigned)(*at - '0');
@@ -687,16 +825,21 @@ static void give_field(sqlite3_context *context, const char *field, const char *
         sqlite3_result_double(context, is_negative ? -mean : mean);
     } else if (number <= most) {
         sqlite3_result_int64(context, is_negative ? (sqlite3_int64)(0 - (uint64_t)number) : (sqlite3_int64)number);
-    } else {
+    } else if (v->sums == SUMS_TEXT) {
         sqlite3_result_text(context, field, (int)(end - field), SQLITE_TRANSIENT);
+    } else if (v->sums == SUMS_REAL) {
+        sqlite3_result_double(context, is_negative ? -(double)number : (double)number);
+    } else {
+        return refuse_sum(v, field, end);
     }
+    return SQLITE_OK;
 }
 
 static int column(sqlite3_vtab_cursor *base, sqlite3_context *context, int k) {
     cursor *c = (cursor *)base;
-    if (((vtab *)base->pVtab)->sql)
-        give_field(context, c->fields[k], c->fields[k + 1] - 1);
-    else if (c->rows->used >> k & 1 && is_value(c->rows, k, c->at))
+    vtab *v = (vtab *)base->pVtab;
+    if (v->sql) return give_field(v, context, c->fields[k], c->fields[k + 1] - 1);
+    if (c->rows->used >> k & 1 && is_value(c->rows, k, c->at))
         sqlite3_result_int64(context, value(c->rows, k, c->at));
     return SQLITE_OK;
 }

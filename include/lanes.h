@@ -15,11 +15,12 @@
  * written, and the call is to be made again with more room. A room of 0 asks for the length alone; `out` isn't null then either.
  *
  * What is answered: 0, or the number of a refusal. A refused call tells *length as 0, writes nothing into `out`, and tells in *place
- * where it was refused. With 0, *place is {0, 0}, and so it is if a refusal has no place. LANES_MEMORY may come in place of any
+ * the place of the refusal. With 0, *place is {0, 0}, and so it is if a refusal has no place. LANES_MEMORY may come in place of any
  * other refusal, and LANES_READ_FAULT means more than 2^48 bytes of input. Both are refusals of the call, and not of the bytes.
  *
  * A file is a canonical column file, as docs/FORMATS.md has it; the program `lanes` writes the same bytes. A text is UTF-8, without a
- * byte 0 at its end.
+ * byte 0 at its end. Who keeps a file on a disk that other processes change too holds its lock from the reading to the writing, or loses what
+ * they add: lanes_file_driver.h does that.
  *
  * Don't call from a signal handler, nor from the forked child of a process with threads.
  */
@@ -31,13 +32,16 @@
 #include <stdint.h>
 
 /* The version that this header is of. lanes_version answers that of the library that is loaded. */
-#define LANES_VERSION "0.9.0"
+#define LANES_VERSION "0.10.0"
+
+/* The same as a number, for #if: 1,000,000 times the first number, 1,000 times the second, and the third, so that 0.10.0 is 10000. */
+#define LANES_VERSION_NUMBER 10000
 
 #ifdef __cplusplus
 extern "C" {
 #endif
 
-/* Where a call was refused: one or two numbers, by the refusal's number. What isn't named here is 0.
+/* The place at which a call was refused: one or two numbers, by the refusal's number. What isn't named here is 0.
  *
  *   LANES_CONFLICT, LANES_NOT_APART, LANES_MISSING
  *                       first: the batch's origin; second: its number
@@ -157,12 +161,13 @@ uint8_t lanes_dump(const uint8_t *file, size_t file_length, bool has_names, uint
  *
  * The batches have consecutive names; the first is origin.number. The same rows under the same name are there already, so an import may
  * be sent twice; other rows under a name that is held are LANES_CONFLICT. If origin and number are both 0, the name is drawn from
- * `words`, words_count random numbers of the caller: of the first of them from which all names are free. Four are plenty. If a name is
- * given, words_count may be 0.
+ * `words`, words_count random numbers of the caller: of the first of them from which all names are free. Four are plenty. Each has 64
+ * random bits: the upper 32 are the origin, so a number below 2^32 gives no name. If a name is given, words_count may be 0.
  *
  * Gives: the new file; it is the given file if nothing was new.
  * Refused, in this order: the file's first fault; LANES_BAD_CSV, LANES_LINE_TOO_LONG; LANES_BAD_NAME if one of origin and number
- * is 0; LANES_NUMBERS_SPENT if names go past 4,294,967,295 or no word gives a free one; LANES_CONFLICT; LANES_FULL. */
+ * is 0; LANES_NUMBERS_SPENT if names go past 4,294,967,295, or a name is to be drawn and no word gives a free one, so also if
+ * words_count is 0; LANES_CONFLICT; LANES_FULL. */
 uint8_t lanes_import(const uint8_t *file, size_t file_length, const uint8_t *csv, size_t csv_length, bool has_heading, uint32_t origin,
                      uint32_t number, const uint64_t *words, size_t words_count, uint8_t *out, size_t room, size_t *length,
                      lanes_place *place);
@@ -243,6 +248,15 @@ uint8_t lanes_open(const uint8_t *file, size_t file_length, lanes_table *table, 
  * Answers 0; LANES_NOT_OPEN when `table` is closed; or LANES_MEMORY. When it doesn't answer 0, `other` is as it was. */
 uint8_t lanes_share(lanes_table *table, lanes_table *other);
 
+/* Gives the key by which the queries of a handle find groups and distinct values: two words, which should be drawn at random once a
+ * process. Handles that are shared from this one afterwards have it too, and so has the handle after a change of its table. No answer
+ * depends on it. Without this call the key is the same in each process, and so it is for lanes_query and lanes_queries: then whoever
+ * chooses the rows of a table can choose them so that GROUP BY or DISTINCT takes time in proportion to the square of their number, which
+ * is hours for a million rows. So call it if rows come from others.
+ *
+ * Answers 0, or LANES_NOT_OPEN when the handle is closed. */
+uint8_t lanes_hash_key(lanes_table *table, uint64_t first, uint64_t second);
+
 /* Answers a query over the file that a handle is of, without opening that file again.
  *
  * Gives: what lanes_query gives of that file.
@@ -258,10 +272,6 @@ uint8_t lanes_ask(lanes_table *table, const uint8_t *sql, size_t sql_length, uin
  * Refused: LANES_NOT_OPEN when the handle is closed; else what lanes_ask refuses of the query. */
 uint8_t lanes_partial(lanes_table *table, const uint8_t *sql, size_t sql_length, uint8_t *out, size_t room, size_t *length,
                       lanes_place *place);
-
-/* lanes_partial, by its name up to 0.5. It goes with the next release. */
-uint8_t lanes_part(lanes_table *table, const uint8_t *sql, size_t sql_length, uint8_t *out, size_t room, size_t *length,
-                   lanes_place *place);
 
 /* Combines two partial answers. Whichever comes first, the bytes are the same.
  *
@@ -317,7 +327,7 @@ uint8_t lanes_inspect_summary(const uint8_t *summary, size_t summary_length, uin
  * condition: what follows WHERE; of length 0: every live row.
  *
  * Gives: *rows is how many rows there are. Column c's cells are values[c * rows] and on, 0 at a null. Its bits begin at
- * valid[c * stride], where stride is 64 * ((rows + 511) / 512): bit i % 8 of byte i / 8 is 1 if cell i is a value, and 0 if it is
+ * valid[c * stride], and stride is 64 * ((rows + 511) / 512): bit i % 8 of byte i / 8 is 1 if cell i is a value, and 0 if it is
  * null or past the last row. nulls[c] is how many nulls there are. The rooms are counted in numbers. If rows * columns >
  * values_room, or stride * columns > valid_room, or columns > nulls_room, nothing is written but *rows. So a call with rooms of 0 asks
  * for *rows alone. The three rooms are never null, and overlap nothing.
@@ -357,6 +367,13 @@ uint8_t lanes_inspect(lanes_table *table, uint8_t format, uint8_t *out, size_t r
  * Refused: LANES_NOT_OPEN when the handle is closed. */
 uint8_t lanes_file(lanes_table *table, uint8_t *out, size_t room, size_t *length, lanes_place *place);
 
+/* Gives the digest of what a handle's table holds: 32 hexadecimal digits in lower case, the first of the SHA-512 of its file. Tables that
+ * hold the same batches and deletions have the same digest. If two digests are the same, then, but for a collision, the tables hold the
+ * same: so replicas are compared without moving them.
+ *
+ * Refused: LANES_NOT_OPEN when the handle is closed. */
+uint8_t lanes_digest(lanes_table *table, uint8_t *out, size_t room, size_t *length, lanes_place *place);
+
 /* Spreads the table of a handle over several files, its shares: as many as `ends` has room for. Each batch goes to one share, in runs of
  * names, with all deletions that name it. Deletions that name no batch of the table go to the first share. No share has more bytes than
  * an equal share and the largest batch, and none is without a batch when the table has as many batches as there are shares. The handle
@@ -380,7 +397,7 @@ uint8_t lanes_table_import(lanes_table *table, const uint8_t *csv, size_t csv_le
 
 /* Imports rows of columns: the mirror of lanes_columns. So what that gives of all columns of a table is what this takes.
  *
- * Column c of the table, from 0, has its numbers from values[c * rows] on. Its bits begin at valid[c * stride], where stride is
+ * Column c of the table, from 0, has its numbers from values[c * rows] on. Its bits begin at valid[c * stride], and stride is
  * 64 * ((rows + 511) / 512): bit i % 8 of byte i / 8 is 1 if cell i is a value, and 0 if it is null. A null's number, and the bits past
  * the last row, don't matter. With a valid_length of 0 each cell is a value. Rows become batches, and these get names, as of lanes_import.
  * `values` and `valid` are never null, also with a length of 0.
@@ -496,7 +513,7 @@ enum {
     LANES_CALL_LINK = 4,
     /* remove the name; it is no failure if it is gone */
     LANES_CALL_REMOVE = 5,
-    /* sync the folder */
+    /* sync the folder; once that has failed, make no such call any more, and answer each that it failed: a later sync proves nothing */
     LANES_CALL_SETTLE = 6,
     /* take the folder's exclusive lock */
     LANES_CALL_LOCK = 7,
@@ -648,7 +665,7 @@ uint8_t lanes_head(const uint8_t *bytes, size_t bytes_length, lanes_table *table
 /* Makes the part of a delete in what the parts of a folder hold together, which the table has: the file of the deletions alone of the rows at
  * which the condition is true. *rows is how many these are; when there are none, there is no part.
  *
- * Gives: the part, of no bytes when there is none.
+ * Gives: the part, of no bytes if there isn't one.
  * Refused, in this order: LANES_NOT_OPEN, LANES_SYNTAX when the condition is no text, and the condition's first fault. */
 uint8_t lanes_table_delete_part(lanes_table *table, const uint8_t *condition, size_t condition_length, uint64_t *rows, uint8_t *out, size_t room,
                                 size_t *length, lanes_place *place);
@@ -672,7 +689,7 @@ size_t lanes_refusal(uint8_t number, uint8_t *out, size_t room);
  * has more than 256 bytes. */
 size_t lanes_sentence(uint8_t number, const lanes_place *place, uint8_t *out, size_t room);
 
-/* Gives the library's version, as "0.9.0", without a byte 0 at its end, and answers how many bytes it has. It is written if it
+/* Gives the library's version, as "0.10.0", without a byte 0 at its end, and answers how many bytes it has. It is written if it
  * fits. */
 size_t lanes_version(uint8_t *out, size_t room);
 

@@ -91,6 +91,8 @@ static void try_closed(bytes file) {
     expect(seen.number == LANES_NOT_OPEN && seen.length == 0, "the file of a closed handle");
     seen.number = lanes_inspect(&table, LANES_TEXT, seen.out, ROOM, &seen.length, &seen.place);
     expect(seen.number == LANES_NOT_OPEN && seen.length == 0, "the report of a closed handle");
+    seen.number = lanes_digest(&table, seen.out, ROOM, &seen.length, &seen.place);
+    expect(seen.number == LANES_NOT_OPEN && seen.length == 0, "the digest of a closed handle");
 }
 
 /* Each change of a handle beside the call without one; a second handle has the table before. */
@@ -185,6 +187,28 @@ static void try_refusals(bytes file) {
     free(visits.at);
     free(clash.at);
     free(empty.at);
+}
+
+/* The digest of a table is that of its file, with which the file's name as a part begins; another handle of the same has the same one, and
+ * a changed table another. */
+static void try_digests(bytes file) {
+    lanes_table table = opened(file), second = LANES_CLOSED;
+    bytes first, named, again, changed;
+    expect(lanes_share(&table, &second) == LANES_OK, "a second handle");
+    TAKE(first, lanes_digest(&table, out, room, &length, &place));
+    TAKE(named, lanes_part_name(file.at, file.length, out, room, &length, &place));
+    TAKE(again, lanes_digest(&second, out, room, &length, &place));
+    expect(first.length == 32 && named.length == 38 && memcmp(first.at, named.at, 32) == 0, "the digest of a table");
+    expect(again.length == 32 && memcmp(again.at, first.at, 32) == 0, "the digest of a second handle");
+    expect(is_done(imported(&table, "1,100\n1,100\n", 7, 7, 0)), "an import before a digest");
+    TAKE(changed, lanes_digest(&table, out, room, &length, &place));
+    expect(changed.length == 32 && memcmp(changed.at, first.at, 32) != 0, "the digest of a changed table");
+    lanes_close(&table);
+    lanes_close(&second);
+    free(first.at);
+    free(named.at);
+    free(again.at);
+    free(changed.at);
 }
 
 /* Reports in rooms of all sizes; after a change the report is that of the changed file. */
@@ -297,6 +321,7 @@ int main(void) {
     try_changes(file);
     try_drawn_names(file);
     try_refusals(file);
+    try_digests(file);
     try_reports(file);
     try_pieces();
     free(empty.at);

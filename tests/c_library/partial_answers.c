@@ -156,18 +156,6 @@ static void try_bad_partial_answers(bytes first, bytes second) {
     }
 }
 
-/* What was lanes_part up to 0.5 gives the same. */
-static void try_former_name(bytes one, bytes first) {
-    lanes_table table = opened(one);
-    told seen = cleared();
-    seen.number = lanes_part(&table, text_of(SQL), strlen(SQL), seen.out, ROOM, &seen.length, &seen.place);
-    expect(seen.number == 0 && seen.length == first.length && memcmp(seen.out, first.at, first.length) == 0, "the former name");
-    lanes_close(&table);
-    seen = cleared();
-    seen.number = lanes_part(&table, text_of(SQL), strlen(SQL), seen.out, ROOM, &seen.length, &seen.place);
-    expect(is_refused(&seen, LANES_NOT_OPEN, 0, 0), "a closed handle, by the former name");
-}
-
 /* A partial answer is refused what a query is, and of a closed handle. */
 static void try_asked(bytes one) {
     static const char *const BAD[] = {"", "SELECT \xff FROM T", "SELECT C FROM T", "SELECT A FROM U", "SELECT A FROM T"};
@@ -193,7 +181,6 @@ int main(void) {
     try_pairs(one, first, second);
     try_bad_partial_answers(first, second);
     try_asked(one);
-    try_former_name(one, first);
     free(empty.at);
     free(one.at);
     free(other.at);

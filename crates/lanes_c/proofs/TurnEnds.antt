@@ -6,10 +6,9 @@ use Rattle.folder_history.specs.Turn.{IsStored}
 use Rattle.folder_protocol.specs.Causes.{FailsToSync, FindsNone, HasCall, Lacks}
 use Rattle.folder_protocol.specs.Goes.{AreRemoved}
 use Rattle.folder_protocol.specs.Keeping.{AreKept}
-use Rattle.folder_protocol.specs.Taking.{HasListed}
 use Rattle.folder_protocol.specs.declared.putting.Outcome.{Outcome}
 use Rattle.folder_protocol.specs.declared.putting.Outcome.TheVariants.{OnDisk, Unsynced, Gone, Damaged}
-use Rattle.folder_replay.specs.Orders.{Matter, Caused, Says, HasOnlySeen}
+use Rattle.folder_replay.specs.Orders.{Matter, Caused, Says, HasOnlySeen, HasUnseen}
 use Rattle.folder_replay.specs.Turns.{State, EndsSaying}
 use Rattle.folder_replay.specs.declared.order.End.{End}
 use Rattle.folder_replay.specs.declared.order.End.TheVariants as ends
@@ -55,8 +54,8 @@ module _ {E : Type 0} (P : Type 0) where
 ended_says : (E : Type 0) (task : Task) (m : Matter) (end : Result End E) (n : ℕ) (parts : Parts) (before calls : List Call) → EndsAs end n → Says task m end parts before calls → SaysEnd task m n parts before calls
 ended_says E tasks.Put m end n parts before calls number said = on_disk {E = E} (IsStored parts m.bytes calls) end n number said
 ended_says E tasks.Keep m end n parts before calls number said = on_disk {E = E} (IsStored parts m.bytes calls) end n number said
-ended_says E tasks.Replace m end n parts before calls number said = on_disk {E = E} (AreRemoved m.names before calls) end n number said
-ended_says E tasks.Remove m end n parts before calls number said = on_disk {E = E} (AreRemoved m.names before calls) end n number said
+ended_says E tasks.Replace m end n parts before calls number said = on_disk {E = E} (AreRemoved m.names before calls × IsStored parts m.bytes calls) end n number said
+ended_says E tasks.Remove m end n parts before calls number said = on_disk {E = E} (AreRemoved m.names before calls × IsStored parts m.bytes calls) end n number said
 ended_says E tasks.List m end n parts before calls number said = tt
 ended_says E tasks.KeepAll m (Ok end) n parts before calls number said = said
 ended_says E tasks.KeepAll m (Err error) n parts before calls number said = absurd number
@@ -87,7 +86,7 @@ module _ {E : Type 0} (m : Matter) (before calls : List Call) where
   gone (Ok ends.Kept) n number cause three = absurd (omega (arith, number, three))
   gone (Err error) n number cause three = absurd number
 
-  unseen : (end : Result End E) (n : ℕ) → EndsAs end n → Caused m end before calls → n ≡ 4 → HasListed before calls
+  unseen : (end : Result End E) (n : ℕ) → EndsAs end n → Caused m end before calls → n ≡ 4 → HasUnseen m.names before calls
   unseen (Ok (ends.Came OnDisk)) n number cause four = absurd (omega (arith, number, four))
   unseen (Ok (ends.Came Unsynced)) n number cause four = absurd (omega (arith, number, four))
   unseen (Ok (ends.Came Gone)) n number cause four = absurd (omega (arith, number, four))
@@ -124,6 +123,7 @@ has_ended {E} before state call end n ended told none number says = let ends_as 
   λ parts may. (
     ended_says E state.task state.matter end call.number parts before (state.calls ++ before) ends_as (says parts may).0,
     number_caused state.matter before (state.calls ++ before) end call.number ends_as (says parts may).1,
+    (says parts may).2,
   ),
 )
 

@@ -7,10 +7,9 @@ use Rattle.folder_home.specs.PartName.{part_name}
 use Rattle.folder_protocol.specs.Causes.{Fails, FailsToSync, FindsNone, FindsOther, HasCall, Lacks}
 use Rattle.folder_protocol.specs.Goes.{AreRemoved}
 use Rattle.folder_protocol.specs.Keeping.{AreKept}
-use Rattle.folder_protocol.specs.Taking.{HasListed}
 use Rattle.folder_protocol.specs.declared.putting.Outcome.TheVariants.{OnDisk, Unsynced, Gone, Damaged}
 use Rattle.folder_replay.specs.Calls.{answered, names_of, found_of}
-use Rattle.folder_replay.specs.Orders.{Matter, MayTake, HasOnlySeen}
+use Rattle.folder_replay.specs.Orders.{Matter, MayTake, HasOnlySeen, HasUnseen, LinksInTask}
 use Rattle.folder_replay.specs.Turns.{State, AsksInTurn}
 use Rattle.folder_replay.specs.declared.order.End.{End}
 use Rattle.folder_replay.specs.declared.order.End.TheVariants as ends
@@ -110,22 +109,23 @@ EndsIn (Ok end) fault = ⊥
 EndsIn (Err error) fault = (fault ≡ faults.Busy) ⊎ ((code : ℕ) × (fault ≡ faults.System code))
 
 -- What an end of this number says of all calls, after those before: a part that is on the disk is stored, and then the others are removed in whose
--- place it came; parts are kept; and a part that is there, and was to go with all others, was given its name only as a listing gave no
--- names but those that were seen.
+-- place it came; parts are kept; and a part that is there, and was to go with all others, was given its name only as a listing under the
+-- exclusive lock gave no names but those that were seen.
 abbrev pub SaysEnd : Task → Matter → ℕ → Parts → List Call → List Call → Type 0
 SaysEnd tasks.Put m n parts before calls = n ≡ 1 → IsStored parts m.bytes calls
 SaysEnd tasks.Keep m n parts before calls = n ≡ 1 → IsStored parts m.bytes calls
-SaysEnd tasks.Replace m n parts before calls = n ≡ 1 → AreRemoved m.names before calls
-SaysEnd tasks.Remove m n parts before calls = n ≡ 1 → AreRemoved m.names before calls
+SaysEnd tasks.Replace m n parts before calls = n ≡ 1 → AreRemoved m.names before calls × IsStored parts m.bytes calls
+SaysEnd tasks.Remove m n parts before calls = n ≡ 1 → AreRemoved m.names before calls × IsStored parts m.bytes calls
 SaysEnd tasks.List m n parts before calls = Unit {0}
 SaysEnd tasks.KeepAll m n parts before calls = AreKept parts m.names before calls
 SaysEnd tasks.PutJudged m n parts before calls = (n ≡ 1 → IsStored parts m.bytes calls) × ((n ≡ 1) ⊎ (n ≡ 2) → HasOnlySeen m.names before calls)
 
--- What an end of this number comes of: a sync that failed; a name of which there was no file, or that a listing lacked; or a listing.
+-- What an end of this number comes of: a sync that failed; a name of which there was no file, or that a listing lacked; or a listing under the
+-- exclusive lock that gave a name that was not seen.
 pub record NumberCause (m : Matter) (n : ℕ) (before calls : List Call) : Type 0 where
   pub unsynced : n ≡ 2 → HasCall FailsToSync before calls
   pub gone : n ≡ 3 → HasCall (FindsNone m.name) before calls ⊎ HasCall (Lacks m.names) before calls
-  pub unseen : n ≡ 4 → HasListed before calls
+  pub unseen : n ≡ 4 → HasUnseen m.names before calls
 
 -- What a fault of a turn comes of: a call that failed, or other bytes that were found. System 0 may also be that the calls told are not
 -- those that were asked for, and memory may run out.
@@ -136,12 +136,14 @@ FaultCause (faults.System code) m before calls = (code ≡ 0) ⊎ HasCall Fails 
 FaultCause (faults.Refused refusal) m before calls = refusal ≡ Memory
 FaultCause fault m before calls = ⊥
 
--- A turn has come to its end, and asks for nothing. Its number says what the end of its task says, and has its cause.
+-- A turn has come to its end, and asks for nothing. Its number says what the end of its task says, and has its cause; and files were given names
+-- as its task does.
 abbrev pub HasEnded : List Call → State → FolderCall → Type 0
 HasEnded before state call =
     (call.kind ≡ 0) × (state.asked ≡ None)
     × ((parts : Parts) → MayTake state.task state.matter parts before
-    → SaysEnd state.task state.matter call.number parts before (state.calls ++ before) × NumberCause state.matter call.number before (state.calls ++ before))
+    → SaysEnd state.task state.matter call.number parts before (state.calls ++ before) × NumberCause state.matter call.number before (state.calls ++ before)
+    × LinksInTask state.task state.matter before (state.calls ++ before))
 
 -- What is asked for next is in turn after what was told; or the turn has ended, or is refused, which has its cause.
 abbrev pub GoesOn : List Call → State → FolderCall → Given → Type 0

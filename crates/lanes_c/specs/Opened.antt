@@ -58,6 +58,10 @@ Shares number old new was other =
     × MatchOption old.replica ((number ≡ 39) × (other.replica ≡ was.replica))
     (λ r. ((number ≡ 0) × (other.replica ≡ Some r)) ⊎ ((number ≡ 1) × (other.replica ≡ was.replica)))
 
+-- lanes_hash_key: The handle stays as it was. With 0 it is open; else it is closed, and NotOpen is reported.
+abbrev pub TakesKey : ℕ → Table → Table → Type 0
+TakesKey number old new = (new.replica ≡ old.replica) × MatchOption old.replica (number ≡ 39) (λ _. number ≡ 0)
+
 -- lanes_close: the handle is closed
 abbrev pub IsClosed : Table → Type 0
 IsClosed table = table.replica ≡ None

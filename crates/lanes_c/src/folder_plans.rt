@@ -8,6 +8,7 @@ use crate::handle::Table;
 use crate::shared::Shared;
 use crate::table_changes::tell;
 use folder_home::{packed_prefix, part_head};
+use query_eval::HashKey;
 use replica_store::Store;
 use std::alloc::Global;
 use std::boxed::Box;
@@ -36,7 +37,7 @@ fn head_of(alloc: Global, bytes: &[u8]) -> Result<EmptyHead, Fault>
     let head = part_head(alloc, bytes)?;
     let store = Store::new(alloc, &head.schema, Origin(1))?;
     Ok(EmptyHead {
-        shared: Shared::new(alloc, store)?,
+        shared: Shared::new(alloc, HashKey::fixed(), store)?,
         batches: head.batches as usize,
     })
 }

@@ -11,7 +11,6 @@ mod delete_part;
 mod expecting;
 mod fault;
 mod folder_plans;
-mod folder_turns;
 mod handle;
 mod held_rows;
 mod input_columns;
@@ -33,6 +32,7 @@ mod spreading;
 mod table_changes;
 mod table_reading;
 mod taking;
+mod folder_turns;
 mod turn_handle;
 
 pub use changing::{lanes_create, lanes_delete, lanes_forget, lanes_import};
@@ -43,17 +43,13 @@ pub use delete_part::lanes_table_delete_part;
 pub use expecting::lanes_finish_expected;
 pub use fault::Place;
 pub use folder_plans::{lanes_head, lanes_packed_prefix};
-pub use folder_turns::{
-    FolderCall, lanes_folder_begin, lanes_folder_end, lanes_folder_name, lanes_folder_next,
-    lanes_part_name,
-};
 pub use handle::Table;
 pub use held_rows::lanes_table_delete_held_rows;
 pub use merging::lanes_merge;
 pub use messages::{lanes_apply, lanes_offer, lanes_summary};
 pub use names::{lanes_refusal, lanes_sentence, lanes_version};
-pub use opening::{lanes_ask, lanes_close, lanes_open, lanes_share};
-pub use partials::{lanes_combine, lanes_finish, lanes_part, lanes_partial};
+pub use opening::{lanes_ask, lanes_close, lanes_hash_key, lanes_open, lanes_share};
+pub use partials::{lanes_combine, lanes_finish, lanes_partial};
 pub use parts_handle::FolderParts;
 pub use parts_reading::{lanes_parts_close, lanes_parts_open, lanes_parts_take};
 pub use parts_turns::{lanes_folder_part, lanes_parts_forget, lanes_parts_pack};
@@ -64,5 +60,9 @@ pub use table_changes::{
     lanes_table_apply, lanes_table_delete, lanes_table_delete_rows, lanes_table_forget,
     lanes_table_import,
 };
-pub use table_reading::{lanes_batches, lanes_file, lanes_inspect};
+pub use table_reading::{lanes_batches, lanes_digest, lanes_file, lanes_inspect};
+pub use folder_turns::{
+    FolderCall, lanes_folder_begin, lanes_folder_end, lanes_folder_name, lanes_folder_next,
+    lanes_part_name,
+};
 pub use turn_handle::FolderTurn;

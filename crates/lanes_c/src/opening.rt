@@ -1,7 +1,7 @@
 //! The calls on a file that stays open: opening it, a second handle of it, a query, and closing the handle.
 ghost use Rattle.std.specs.Prelude.{◌≡◌, IfOk, IfErr, List, Ok, ℕ};
 ghost use Rattle.lanes_c.specs.Calls.{Yields, Asks, query_of};
-ghost use Rattle.lanes_c.specs.Opened.{IsWhyNotOpened, Opens, AsksOpen, Shares, IsClosed, answered_at};
+ghost use Rattle.lanes_c.specs.Opened.{IsWhyNotOpened, Opens, AsksOpen, Shares, TakesKey, IsClosed, answered_at};
 ghost use Rattle.lanes_c.specs.Rooms.{given_by};
 ghost use Rattle.replica_reading.specs.Held.{held_in};
 
@@ -11,7 +11,7 @@ use crate::room::hand_out;
 use crate::shared::Shared;
 use crate::taking::text_of;
 use column_file::open;
-use query_eval::text;
+use query_eval::{HashKey, text};
 use replica_reading::OpenFile;
 use replica_store::Store;
 use std::alloc::Global;
@@ -42,30 +42,35 @@ fn opened(alloc: Global, file: &[u8]) -> Result<Box<Shared>, Fault>
     ensures fault { IfErr result (λ fault. IsWhyNotOpened fault file.now) }
 {
     let store = store_of(alloc, file)?;
-    Ok(Shared::new(alloc, store)?)
+    Ok(Shared::new(alloc, HashKey::fixed(), store)?)
 }
 
 /// The text of a query's answer over a store.
-fn answer_text(alloc: Global, store: &Store, sql: &str) -> Result<Vec<u8>, Fault>
+fn answer_text(alloc: Global, store: &Store, hash_key: HashKey, sql: &str) -> Result<Vec<u8>, Fault>
     ensures { Yields (given_by result) (answered_at store.now.replica sql.now) }
 {
-    let answer = ask(alloc, store, sql)?;
+    let answer = ask(alloc, store, hash_key, sql)?;
     Ok(text(alloc, &answer)?)
 }
 
 /// The same of a query in bytes.
-pub(crate) fn answered_over(alloc: Global, store: &Store, sql: &[u8]) -> Result<Vec<u8>, Fault>
+pub(crate) fn answered_over(
+    alloc: Global,
+    store: &Store,
+    hash_key: HashKey,
+    sql: &[u8],
+) -> Result<Vec<u8>, Fault>
     ensures { Asks (given_by result) sql.now (answered_at store.now.replica sql.now) }
 {
     let sql = text_of(sql)?;
-    answer_text(alloc, store, sql)
+    answer_text(alloc, store, hash_key, sql)
 }
 
 /// The same of what is open, as it is said of a file that holds it.
 fn asked_of(alloc: Global, shared: &Shared, sql: &[u8]) -> Result<Vec<u8>, Fault>
     ensures { (file : List ℕ) → held_in file ≡ Ok shared.now.store.value.replica → Asks (given_by result) sql.now (query_of sql.now file) }
 {
-    answered_over(alloc, &shared.store, sql)
+    answered_over(alloc, &shared.store, shared.hash_key, sql)
 }
 
 /// Opens a file: it is judged once, and what it holds is kept until the last handle of it is closed. The bytes may go then.
@@ -129,6 +134,22 @@ pub extern "C" fn lanes_ask(
     let given = asked_of(alloc, &shared, sql);
     drop(replace(table, Table::of_box(shared)).into_box(alloc));
     hand_out(given, room, length, place)
+}
+
+/// Gives the two words of a key, drawn at random, by whose hashes the queries of a handle find groups from now on, and those of each
+/// handle that is shared from it. No answer depends on them.
+///
+/// Refused is `NotOpen` if the handle is closed.
+#[unsafe(no_mangle)]
+pub extern "C" fn lanes_hash_key(alloc: Global, table: &mut Table, first: u64, second: u64) -> u8
+    ensures { TakesKey result table.old table.new }
+{
+    let Some(mut shared) = replace(table, Table::closed()).into_box(alloc) else {
+        return NOT_OPEN;
+    };
+    shared.set_hash_key(HashKey::new(first, second));
+    drop(replace(table, Table::of_box(shared)).into_box(alloc));
+    0
 }
 
 /// Closes a handle. A closed one may be closed again.

@@ -17,6 +17,7 @@ use answer_formats::Format;
 use partial_answers::PartialAnswer;
 use partial_commands::{combine_next, partial_answer_of_store, write_finished_answer};
 use partial_file::write_partial_answer;
+use query_eval::HashKey;
 use replica_store::Store;
 use std::alloc::Global;
 use std::mem::replace;
@@ -32,26 +33,36 @@ fn bytes_of(alloc: Global, partial: &PartialAnswer) -> Result<Vec<u8>, Fault>
 }
 
 /// What a store gives to the answer of a query, in bytes.
-fn partial_answer_over(alloc: Global, store: &Store, sql: &str) -> Result<Vec<u8>, Fault>
+fn partial_answer_over(
+    alloc: Global,
+    store: &Store,
+    hash_key: HashKey,
+    sql: &str,
+) -> Result<Vec<u8>, Fault>
     ensures { GivesPartialAnswer (given_by result) (query_partial_answer sql.now store.now.replica.schema store.now.replica.state) }
 {
-    let partial = partial_answer_of_store(alloc, store, sql)?;
+    let partial = partial_answer_of_store(alloc, store, hash_key, sql)?;
     bytes_of(alloc, &partial)
 }
 
 /// The same of a query in bytes.
-fn partial_answer_asked(alloc: Global, store: &Store, sql: &[u8]) -> Result<Vec<u8>, Fault>
+fn partial_answer_asked(
+    alloc: Global,
+    store: &Store,
+    hash_key: HashKey,
+    sql: &[u8],
+) -> Result<Vec<u8>, Fault>
     ensures { AsksPartialAnswer (given_by result) sql.now store.now.replica }
 {
     let sql = text_of(sql)?;
-    partial_answer_over(alloc, store, sql)
+    partial_answer_over(alloc, store, hash_key, sql)
 }
 
 /// The same of what is open.
 fn partial_answer_of_open(alloc: Global, shared: &Shared, sql: &[u8]) -> Result<Vec<u8>, Fault>
     ensures { AsksPartialAnswer (given_by result) sql.now shared.now.store.value.replica }
 {
-    partial_answer_asked(alloc, &shared.store, sql)
+    partial_answer_asked(alloc, &shared.store, shared.hash_key, sql)
 }
 
 /// The partial answer that two partial answers in bytes make.
@@ -113,21 +124,6 @@ pub extern "C" fn lanes_partial(
     let given = partial_answer_of_open(alloc, &shared, sql);
     drop(replace(table, Table::of_box(shared)).into_box(alloc));
     hand_out(given, room, length, place)
-}
-
-/// [`lanes_partial`], by its name up to 0.5, for callers that were built with it. It goes with the next release.
-#[unsafe(no_mangle)]
-pub extern "C" fn lanes_part(
-    alloc: Global,
-    table: &mut Table,
-    sql: &[u8],
-    room: &mut [u8],
-    length: &mut usize,
-    place: &mut Place,
-) -> u8
-    ensures { PartialAnswersOpen result sql.now table.old table.new room.old room.new length.new place.new }
-{
-    lanes_partial(alloc, table, sql, room, length, place)
 }
 
 /// Combines two partial answers of one query. It gives the partial answer of the files of both, whichever comes first.

@@ -10,6 +10,7 @@ use crate::shared::Shared;
 use crate::table_changes::tell;
 use crate::taking::text_of;
 use folder_home::PartFault;
+use query_eval::HashKey;
 use read_parts::ReadParts;
 use std::alloc::Global;
 use std::boxed::Box;
@@ -75,7 +76,7 @@ fn shared_of(alloc: Global, parts: Box<ReadParts>) -> Result<Box<Shared>, Fault>
     ensures { IsShared (Ok parts.value.0) (shared_by result) }
 {
     let store = Box::into_inner(parts).into_store(alloc)?;
-    Ok(Shared::new(alloc, store)?)
+    Ok(Shared::new(alloc, HashKey::fixed(), store)?)
 }
 
 /// Puts a share into a handle, or leaves what it had, if a call was refused. It tells a caller which.

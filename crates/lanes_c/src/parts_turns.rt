@@ -7,10 +7,10 @@ ghost use Rattle.lanes_c.specs.Rooms.{Tells};
 ghost use Rattle.lanes_c.specs.declared.fault.Fault.TheVariants.{Refused};
 
 use crate::fault::{Fault, NOT_OPEN, Place};
-use crate::folder_turns::text;
 use crate::parts_handle::FolderParts;
 use crate::room::{hand_out, hand_over};
 use crate::table_changes::tell;
+use crate::folder_turns::text;
 use crate::turn_handle::FolderTurn;
 use folder_replay::{Order, Turn};
 use read_parts::ReadParts;

@@ -8,6 +8,7 @@ use crate::fault::{Fault, Place};
 use crate::joined::Joined;
 use crate::opening::{answered_over, store_of};
 use crate::room::{fill, hand_out};
+use query_eval::HashKey;
 use replica_store::Store;
 use std::alloc::{AllocError, Global};
 
@@ -25,7 +26,7 @@ fn answers_over(alloc: Global, store: &Store, queries: &[&[u8]]) -> Result<Joine
 {
     let mut answers = Joined::new(alloc);
     for query in 0..queries.len() {
-        match answered_over(alloc, store, queries[query]) {
+        match answered_over(alloc, store, HashKey::fixed(), queries[query]) {
             Ok(text) => answers.push(text.as_slice())?,
             Err(fault) => return Err(fault.of_query(query as u64)),
         }

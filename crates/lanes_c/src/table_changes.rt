@@ -12,6 +12,7 @@ use crate::handle::Table;
 use crate::shared::Shared;
 use crate::taking::text_of;
 use column_file::read_offer;
+use query_eval::HashKey;
 use replica_commands::{Load, apply_offers, import_load};
 use replica_store::{Store, Summary};
 use std::alloc::Global;
@@ -111,12 +112,16 @@ fn with_text(
     with_load(alloc, store, load, first, words)
 }
 
-/// The first share of what a change made.
-fn share_of(alloc: Global, changed: Result<Store, Fault>) -> Result<Box<Shared>, Fault>
+/// The first share of what a change made, by the key of what it was made of.
+fn share_of(
+    alloc: Global,
+    hash_key: HashKey,
+    changed: Result<Store, Fault>,
+) -> Result<Box<Shared>, Fault>
     ensures { IsShared (changed_by changed) (shared_by result) }
 {
     let store = changed?;
-    Ok(Shared::new(alloc, store)?)
+    Ok(Shared::new(alloc, hash_key, store)?)
 }
 
 /// Tells a caller of a fault.
@@ -137,7 +142,7 @@ pub(crate) fn put_change(
 ) -> u8
     ensures { TellsChange (λ given. IsShared (changed_by changed) given) result (Some shared.value.store.value.replica) table.new.replica place.new }
 {
-    match share_of(alloc, changed) {
+    match share_of(alloc, shared.hash_key, changed) {
         Ok(changed) => {
             drop(replace(table, Table::of_box(changed)).into_box(alloc));
             *place = Place::nowhere();

@@ -1,5 +1,6 @@
 //! The calls that read the table of a handle: its file, its report, and how many batches it has.
 ghost use Rattle.std.specs.Prelude.{◌≡◌, IfOk, Ok};
+ghost use Rattle.replica_reading.specs.Digests.{held_digest};
 ghost use Rattle.replica_reading.specs.Held.{held_in};
 ghost use Rattle.replica_commands.specs.Commands.{as_held, file_of};
 ghost use Rattle.lanes_c.specs.Calls.{Yields};
@@ -13,7 +14,7 @@ use crate::room::hand_out;
 use crate::taking::taken;
 use answer_formats::ReportForm;
 use column_file::export;
-use replica_reading::{OpenFile, inspect};
+use replica_reading::{OpenFile, held_digest, inspect};
 use replica_store::Store;
 use std::alloc::Global;
 use std::mem::replace;
@@ -27,6 +28,14 @@ fn file_of(alloc: Global, store: &Store) -> Result<Vec<u8>, Fault>
     let mut writer = Counted::new(Vec::new(alloc));
     let done = export(alloc, store, &mut writer);
     taken(done, writer)
+}
+
+/// The digest of what a store holds, as text.
+fn digest_of(alloc: Global, store: &Store) -> Result<Vec<u8>, Fault>
+    ensures { Yields (given_by result) (Ok (held_digest store.now.replica)) }
+{
+    let digest = held_digest(alloc, store)?;
+    Ok(digest.into_bytes())
 }
 
 /// The form of a report by its number.
@@ -74,6 +83,26 @@ pub extern "C" fn lanes_file(
         return hand_out(Err(Fault::NotOpen), room, length, place);
     };
     let given = file_of(alloc, &shared.store);
+    drop(replace(table, Table::of_box(shared)).into_box(alloc));
+    hand_out(given, room, length, place)
+}
+
+/// Gives the digest of what the table holds that a handle has: the first 32 hexadecimal digits of the SHA-512 of its canonical file.
+/// Refused is `NotOpen` if the handle is closed.
+#[unsafe(no_mangle)]
+pub extern "C" fn lanes_digest(
+    alloc: Global,
+    table: &mut Table,
+    room: &mut [u8],
+    length: &mut usize,
+    place: &mut Place,
+) -> u8
+    ensures { ReadsOpen (λ r given. Yields given (Ok (held_digest r))) result table.old table.new room.old room.new length.new place.new }
+{
+    let Some(shared) = replace(table, Table::closed()).into_box(alloc) else {
+        return hand_out(Err(Fault::NotOpen), room, length, place);
+    };
+    let given = digest_of(alloc, &shared.store);
     drop(replace(table, Table::of_box(shared)).into_box(alloc));
     hand_out(given, room, length, place)
 }
