@@ -2,30 +2,59 @@
 
 from __future__ import annotations
 
+import functools
 import re
 from decimal import Decimal
-from typing import Any, List, Optional, Tuple, Union
+from typing import Any, ClassVar, Iterable, List, Optional, Tuple, Type, Union
 
 #: A field: a whole number, a mean, or None for a null.
 Value = Optional[Union[int, Decimal]]
 
-#: A row: a field for each heading.
-Row = Tuple[Value, ...]
-
-
 #: How many rows a notebook shows.
 _SHOWN = 60
 
+#: How many characters one line of what Python shows has at most.
+_LINE = 120
+
+
+class Row(Tuple[Value, ...]):
+    """A row: a tuple of a field for each heading.
+
+    `_fields` are the headings, as of a `collections.namedtuple`. So a frame of pandas that is made of rows has them: `pandas.DataFrame(answer)`.
+    """
+
+    __slots__ = ()
+
+    _fields: ClassVar[Tuple[str, ...]] = ()
+
+    def _asdict(self) -> dict[str, Value]:
+        """The fields by their headings. Of headings that are the same the last one stays."""
+        return dict(zip(self._fields, self))
+
+    def __reduce__(self) -> tuple[object, ...]:
+        return _row, (self._fields, tuple(self))
+
+
+@functools.lru_cache(maxsize=256)
+def _kind(headings: Tuple[str, ...]) -> Type[Row]:
+    """The class of rows under these headings."""
+    return type("Row", (Row,), {"__slots__": (), "__module__": __name__, "_fields": headings})
+
+
+def _row(headings: Tuple[str, ...], fields: Tuple[Value, ...]) -> Row:
+    """A row under these headings."""
+    return _kind(headings)(fields)
+
 
 class Answer(List[Row]):
-    """The rows of an answer, in order, as a list of tuples.
+    """The rows of an answer, in order, as a list of tuples, each of which has the headings as its `_fields`.
 
     A whole number is an int, a mean a `decimal.Decimal` of six decimals, and a null None. Two answers are equal if they have the same
     headings and rows; a list is equal that has the same rows.
     """
 
-    def __init__(self, headings: list[str], rows: list[Row], sql: str = "") -> None:
-        super().__init__(rows)
+    def __init__(self, headings: list[str], rows: Iterable[Tuple[Value, ...]], sql: str = "") -> None:
+        super().__init__(map(_kind(tuple(headings)), rows))
         #: The headings, one for each field of a row, as the query has them.
         self.headings: list[str] = headings
         self._sql = sql
@@ -34,7 +63,7 @@ class Answer(List[Row]):
     def from_text(cls, text: str, sql: str = "") -> Answer:
         """The answer of a query of which this is the text: a line of headings, and a line for each row."""
         headings, *lines = text.split("\n")[:-1]
-        return cls(headings.split(","), list(map(_row, lines)), sql)
+        return cls(headings.split(","), map(_fields_of, lines), sql)
 
     def __eq__(self, other: object) -> bool:
         if isinstance(other, Answer) and self.headings != other.headings:
@@ -68,11 +97,21 @@ class Answer(List[Row]):
         more = f"<p>and {len(self) - _SHOWN:,} more rows</p>" if len(self) > _SHOWN else ""
         return f"<table><tr>{head}</tr>{rows}</table>{more}"
 
+    def __reduce__(self) -> tuple[object, ...]:
+        return type(self), (self.headings, [tuple(row) for row in self], self._sql)
+
     def __repr__(self) -> str:
-        return f"Answer({self.headings!r}, {list(self)!r})"
+        """All rows if they have room in a line, and otherwise how many there are."""
+        if len(self) < _LINE // 4:  # a row has three characters or more, and a comma
+            whole = f"Answer({self.headings!r}, {list(self)!r})"
+            if len(whole) <= _LINE:
+                return whole
+        count = f"{len(self):,} row{'s' * (len(self) != 1)}"
+        headings = ", ".join(self.headings)
+        return f"<lanes.Answer of {count}: {headings if len(headings) <= _LINE // 2 else headings[: _LINE // 2] + '..'}>"
 
 
-def _row(line: str) -> Row:
+def _fields_of(line: str) -> Tuple[Value, ...]:
     """The fields of a line, which are mostly whole numbers."""
     fields = line.split(",")
     try:
@@ -92,7 +131,7 @@ def _cell(field: Value) -> str:
 
 
 def _means(sql: str, count: int) -> list[bool]:
-    """Which fields of a query's answer are means, by its text, which was taken already: its keywords stand nowhere else."""
+    """Which fields of a query's answer are means, by its text, which was taken already: its keywords are nowhere else."""
     items = re.match(r"\s*SELECT\b(.*?)\bFROM\b", sql, re.ASCII | re.IGNORECASE | re.DOTALL)
     found = [re.match(r"\s*AVG\s*\(", item, re.ASCII | re.IGNORECASE) is not None for item in items[1].split(",")] if items else []
     return found if len(found) == count else [False] * count

@@ -24,7 +24,7 @@ def text_of(name: str, given: object) -> bytes:
     """The bytes of a text.
 
     Raises:
-        TypeError: it is none.
+        TypeError: it isn't one.
         ValueError: it has half a surrogate pair.
     """
     if not isinstance(given, str):
@@ -36,7 +36,7 @@ def text_of(name: str, given: object) -> bytes:
 
 
 def bytes_of(name: str, given: object) -> bytes:
-    """Bytes that were given; a number is none.
+    """Bytes that were given, and not a number.
 
     Raises:
         TypeError: they are none.
@@ -52,7 +52,7 @@ def path_of(name: str, given: Any) -> str:
     """A path as a text.
 
     Raises:
-        TypeError: it is none; a number is none.
+        TypeError: it isn't one, as a number.
         ValueError: it has a byte 0.
     """
     if not isinstance(given, (str, bytes, os.PathLike)):
@@ -67,12 +67,28 @@ def number_of(name: str, given: Any) -> int:
     """A whole number.
 
     Raises:
-        TypeError: it is none.
+        TypeError: it isn't one.
     """
     try:
         return operator.index(given)
     except TypeError:
         raise wrong(name, "a whole number", given) from None
+
+
+def flag_of(name: str, given: Any) -> bool:
+    """Whether something is so.
+
+    Raises:
+        TypeError: it is neither True nor False, as a word or a number.
+    """
+    if isinstance(given, bool) or type(given).__module__ == "numpy" and type(given).__name__ in ("bool", "bool_"):
+        return bool(given)
+    raise wrong(name, "True or False", given)
+
+
+def column_of(word: str) -> str:
+    """The name of a column as a table has it: of ASCII letters either case is taken, and of no others."""
+    return word.upper() if word.isascii() else word
 
 
 def several(name: str, what: str, given: Any) -> list[Any]:

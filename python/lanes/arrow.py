@@ -4,14 +4,15 @@ from __future__ import annotations
 
 import ctypes
 import functools
-from typing import TYPE_CHECKING, Any, Dict
+from typing import TYPE_CHECKING, Any, Dict, Union
 
 from . import arrow_reading, calls
 from .columns import BITS, Selection
 from .library import load_shim
+from .table import Table
 
 if TYPE_CHECKING:
-    from .table import Table
+    from .folder import Folder
 
 #: How many bytes `struct ArrowArrayStream` has.
 _STREAM = 5 * ctypes.sizeof(ctypes.c_void_p)
@@ -63,14 +64,15 @@ def has_shim() -> bool:
     return True
 
 
-def stream_of(table: Table, requested_schema: object = None) -> Any:
-    """The live rows as a capsule `arrow_array_stream`. It owns its memory, and is released with the capsule if nobody takes it.
+def stream_of(owner: Union[Table, Folder], requested_schema: object = None) -> Any:
+    """The live rows of a table or of a folder as a capsule `arrow_array_stream`. It owns its memory, and is released with the capsule if nobody takes it.
 
     Raises:
         OutOfMemory: there is no memory for the columns.
         ValueError: another schema is asked for than one of these columns as wider integers.
     """
     shim = _shim()
+    table = owner if isinstance(owner, Table) else owner.read()
     kinds = table.columns if requested_schema is None else _requested(table, requested_schema)
     selection = Selection(table, kinds, "")
     names = list(kinds)

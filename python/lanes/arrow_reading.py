@@ -112,11 +112,11 @@ def columns_of(data: Any) -> Dict[str, ColumnData]:
         ValueError: a column is there twice, or a row as a whole is null.
         OSError: the stream fails.
     """
-    import numpy as np
-
     give = getattr(data, "__arrow_c_stream__", None)
     if not callable(give):
         raise arguments.wrong("data", "whatever gives Arrow's stream", data)
+    import numpy as np
+
     capsule = give()
     stream = _Stream.from_address(address_in(capsule, b"arrow_array_stream"))
     try:

@@ -1,13 +1,16 @@
-"""Columns of a table as arrays of numpy, and frames of pandas. Both are imported where they are used."""
+"""Columns of a table as arrays of numpy, and frames of pandas. Both are imported when they are used."""
 
 from __future__ import annotations
 
-from typing import TYPE_CHECKING, Any, Iterable, Iterator, Mapping, NamedTuple, Optional, Sequence
+from typing import TYPE_CHECKING, Any, Dict, Iterable, Iterator, List, Mapping, NamedTuple, Optional, Sequence, Tuple
 
 from . import arguments, calls, conditions
 
 if TYPE_CHECKING:
     from .table import Table
+
+#: How many rows a batch has at most.
+_BATCH = 65_536
 
 #: How many bits a value of a type has.
 BITS = {"TINYINT": 8, "SMALLINT": 16, "INTEGER": 32, "BIGINT": 64}
@@ -21,16 +24,32 @@ class ColumnData(NamedTuple):
     nulls: Optional[Any]
 
 
-class Selection:
-    """Columns of the live rows at which a condition is true, in order of row name."""
+class Columns(Dict[str, ColumnData]):
+    """Columns of some rows: of each its data, by its name."""
 
-    def __init__(self, table: Table, columns: Optional[Iterable[str]], where: str) -> None:
+    def to_pandas(self) -> Any:
+        """The same as a frame of pandas, with its nullable types. Of a column that has no null it copies nothing."""
+        import numpy as np
+        import pandas as pd
+
+        made = {}
+        for name, data in self.items():
+            nulls = np.zeros(len(data.values), bool) if data.nulls is None else data.nulls
+            made[name] = pd.arrays.IntegerArray(data.values, nulls)
+        return pd.DataFrame(made, copy=False)
+
+
+class Selection:
+    """Columns of the live rows at which a condition is true, in order of row name. Between are the first batch and how many there are, if not
+    all are looked at."""
+
+    def __init__(self, table: Table, columns: Optional[Iterable[str]], where: str, between: Optional[Tuple[int, int]] = None) -> None:
         kinds = table.columns
         names = list(kinds) if columns is None else _names_of(columns, kinds)
-        self._opened, self._condition = table._asked(), arguments.text_of("where", where)
+        self._opened, self._condition, self._between = table._asked(), arguments.text_of("where", where), between
         with conditions.judged("where", self._condition, kinds):
             #: How many rows there are.
-            self.rows = self._opened.columns(" ".join(names).encode(), self._condition, *calls.NO_ROOM)
+            self.rows = self._opened.columns(" ".join(names).encode(), self._condition, *calls.NO_ROOM, between)
         #: The columns: of each its name and its type.
         self.kinds = {name: kinds[name] for name in names}
         #: How many bytes of bits a column has.
@@ -39,7 +58,8 @@ class Selection:
     def read(self, names: Sequence[str], values: int, valid: int, nulls: int) -> None:
         """Reads some of the columns into memory, by its addresses: rows values, stride bytes and a number of nulls for each."""
         count = len(names)
-        self._opened.columns(" ".join(names).encode(), self._condition, (values, self.rows * count), (valid, self.stride * count), (nulls, count))
+        rooms = (values, self.rows * count), (valid, self.stride * count), (nulls, count)
+        self._opened.columns(" ".join(names).encode(), self._condition, *rooms, self._between)
 
     def groups(self) -> list[list[str]]:
         """The columns that are read at once, the narrow ones first: one at a time; or, if a condition has to be judged each time, as many as
@@ -72,21 +92,94 @@ def _names_of(columns: Iterable[str], kinds: Mapping[str, str]) -> list[str]:
     for word in arguments.several("columns", "several names, as ['SITE'],", columns):
         if not isinstance(word, str):
             raise arguments.wrong("columns", "the name of a column", word)
-        name = word.upper() if word.isascii() else word
+        name = arguments.column_of(word)
         if name not in kinds:
             raise conditions.no_column("columns", word, len(" ".join([*found, ""])), kinds)
         found.append(name)
     return found
 
 
-def arrays(table: Table, columns: Optional[Iterable[str]], where: str) -> dict[str, ColumnData]:
+def arrays(table: Table, columns: Optional[Iterable[str]], where: str, between: Optional[Tuple[int, int]] = None) -> Columns:
     """The columns as arrays."""
-    selection = Selection(table, columns, where)
+    selection = Selection(table, columns, where, between)
     reader = _Reader(selection)
     found: dict[str, ColumnData] = {}
     for names in selection.groups():
         found.update(reader.read(names))
-    return {name: found[name] for name in selection.kinds}
+    return Columns((name, found[name]) for name in selection.kinds)
+
+
+def pieces(table: Table, rows: int, columns: Optional[Iterable[str]], where: str) -> Iterator[Columns]:
+    """The columns in pieces of so many rows, and the last one of those that are left. The arguments are judged at once.
+
+    Raises:
+        ValueError: the number is less than 1.
+    """
+    count = arguments.number_of("rows", rows)
+    if count < 1:
+        raise ValueError(f"rows: a piece has 1 row or more, and this is {count}")
+    names = list(Selection(table, columns, where, (0, 0)).kinds)
+    return _cut(_runs(table, names, where, count), count)
+
+
+def _runs(table: Table, names: List[str], where: str, wanted: int) -> Iterator[Columns]:
+    """The columns of runs of batches: of as many batches as are likely to have the rows that are wanted, and of few rows more."""
+    opened, first, step = table._asked(), 0, 1
+    most = max(wanted, _BATCH)
+    while first < opened.batches():
+        while step > 1 and opened.columns(names[0].encode(), b"", *calls.NO_ROOM, (first, step)) > 2 * most:
+            step //= 2
+        found = arrays(table, names, where, (first, step))
+        first += step
+        if _rows_of(found) < most:
+            step *= 2
+        yield found
+
+
+def _cut(runs: Iterator[Columns], rows: int) -> Iterator[Columns]:
+    """Runs as pieces of so many rows."""
+    waiting: List[Columns] = []
+    for run in runs:
+        waiting.append(run)
+        if sum(map(_rows_of, waiting)) < rows:
+            continue
+        whole, first = _joined(waiting), 0
+        while _rows_of(whole) - first >= rows:
+            yield _between(whole, first, first + rows)
+            first += rows
+        waiting = [_between(whole, first, _rows_of(whole))]
+    if sum(map(_rows_of, waiting)):
+        yield _joined(waiting)
+
+
+def _rows_of(columns: Columns) -> int:
+    """How many rows columns have."""
+    return next(len(data.values) for data in columns.values())
+
+
+def _between(columns: Columns, first: int, last: int) -> Columns:
+    """Some of the rows."""
+    found = Columns()
+    for name, data in columns.items():
+        nulls = None if data.nulls is None else data.nulls[first:last]
+        found[name] = ColumnData(data.values[first:last], None if nulls is None or not nulls.any() else nulls)
+    return found
+
+
+def _joined(parts: List[Columns]) -> Columns:
+    """The rows of several."""
+    import numpy as np
+
+    if len(parts) == 1:
+        return parts[0]
+    found = Columns()
+    for name in parts[0]:
+        data = [part[name] for part in parts]
+        nulls = None
+        if any(one.nulls is not None for one in data):
+            nulls = np.concatenate([np.zeros(len(one.values), bool) if one.nulls is None else one.nulls for one in data])
+        found[name] = ColumnData(np.concatenate([one.values for one in data]), nulls)
+    return found
 
 
 class _Reader:
@@ -121,14 +214,7 @@ class _Reader:
 
 def frame(table: Table, columns: Optional[Iterable[str]], where: str) -> Any:
     """The columns as a frame of pandas, with its nullable types."""
-    import numpy as np
-    import pandas as pd
-
-    made = {}
-    for name, data in arrays(table, columns, where).items():
-        nulls = np.zeros(len(data.values), bool) if data.nulls is None else data.nulls
-        made[name] = pd.arrays.IntegerArray(data.values, nulls)
-    return pd.DataFrame(made, copy=False)
+    return arrays(table, columns, where).to_pandas()
 
 
 def _nulls(bits: Any, rows: int) -> Any:

@@ -20,8 +20,8 @@ _NUMBERS = {
 
 
 class Error(Exception):
-    """The base of all that the module raises of its own. Beside that each is what Python's own modules raise in its place: a ValueError, an
-    OSError, a TimeoutError or a MemoryError."""
+    """The base class of the module's exceptions; each is also the built-in one that fits: a ValueError, an OSError, a TimeoutError or a
+    MemoryError."""
 
 
 class Refused(Error, ValueError):
@@ -30,7 +30,7 @@ class Refused(Error, ValueError):
     Attributes:
         number: the refusal's number, from 1 to 46.
         name: its name, as `Syntax`.
-        place: where, as the name explains it: `(7,)` is a byte from 0, for `Conflict`, `NotApart` and `Missing` it is the batch's origin and number, and for `BadCsv`
+        place: its place, as the name explains it: `(7,)` is a byte from 0, for `Conflict`, `NotApart` and `Missing` it is the batch's origin and number, and for `BadCsv`
             the line and its field, from 1. It is empty if the refusal has no place.
         sentence: what it means, in words, with the place.
     """

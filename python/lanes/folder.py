@@ -5,15 +5,20 @@ from __future__ import annotations
 import errno
 import html
 import os
-from typing import Any, Callable, Iterable, Mapping, NamedTuple, Optional, Tuple, TypeVar, Union
+from typing import TYPE_CHECKING, Any, Callable, Iterable, Mapping, NamedTuple, Optional, Tuple, TypeVar, Union
 
-from . import arguments, calls, folder_driver, part_folder
+from . import arguments, calls, folder_driver, part_folder, resting
 from .answer import Answer
 from .batch_name import GivenName
+from .column_types import ColumnTypes
 from .errors import Busy, Damaged, Refused
+from .holdings import Holdings
 from .partial_answers import Partial
-from .table import Csv, Table
+from .table import ArrowStream, Csv, Table
 from .waiting import Wait
+
+if TYPE_CHECKING:
+    from .columns import Columns
 
 #: How many batches a folder may have.
 _MOST = 1_048_576
@@ -54,7 +59,7 @@ class Folder:
         self._identity = found.st_dev, found.st_ino
 
     @classmethod
-    def create(cls, path: Union[str, os.PathLike[str]], name: str, columns: Union[Mapping[str, str], Iterable[Tuple[str, str]]]) -> Folder:
+    def create(cls, path: Union[str, os.PathLike[str]], name: str, columns: ColumnTypes) -> Folder:
         """Makes a folder of an empty table, all at once. Name and columns are those of `Table.create`.
 
         Raises:
@@ -85,6 +90,10 @@ class Folder:
         """
         return self._joined()[0]
 
+    def digest(self) -> str:
+        """The digest of what all parts hold together, as of `Table.digest`: that of the file which `read().save` writes."""
+        return self.read().digest()
+
     def query(self, sql: str) -> Answer:
         """The answer of a query, as of `Table.query`."""
         return self.read().query(sql)
@@ -93,13 +102,25 @@ class Folder:
         """What the folder gives to the answer of a query over several tables, as of `Table.partial`."""
         return self.read().partial(sql)
 
-    def part(self, sql: str) -> Partial:
-        """`partial`, by its name up to 0.5. It goes with the next release."""
-        return self.partial(sql)
-
     def queries(self, sqls: Iterable[str]) -> list[Answer]:
         """The answers of several queries over one state."""
         return self.read().queries(sqls)
+
+    def to_numpy(self, columns: Optional[Iterable[str]] = None, where: str = "") -> Columns:
+        """The live rows as arrays of numpy, as of `Table.to_numpy`."""
+        return self.read().to_numpy(columns, where)
+
+    def to_pandas(self, columns: Optional[Iterable[str]] = None, where: str = "") -> Any:
+        """The live rows as a frame of pandas, as of `Table.to_pandas`."""
+        return self.read().to_pandas(columns, where)
+
+    if TYPE_CHECKING:
+
+        def __arrow_c_stream__(self, requested_schema: object = None) -> object:
+            """The live rows for whatever takes Arrow, as of `Table.__arrow_c_stream__`."""
+
+    else:
+        __arrow_c_stream__ = ArrowStream()
 
     def summary(self) -> bytes:
         """What the folder holds, in few bytes, for another replica's `offer`."""
@@ -110,11 +131,13 @@ class Folder:
         return self.read().offer(summary)
 
     def import_csv(self, csv: Csv, *, heading: bool = True, batch: Optional[GivenName] = None) -> int:
-        """Adds rows, as `Table.import_csv` does; how many batches are new. Without `batch` no row of the folder is read. A load that is sent
-        again under its name adds no rows, and is on the disk afterwards.
+        """Adds rows, as `Table.import_csv` does; how many batches are new. Without `batch` only the smallest part is read. A load that is sent
+        again under its name adds no rows, and is on the disk afterwards. If the folder has some of its batches, these are on the disk before the
+        others are put.
 
         Raises:
             Refused: a fault of the text or of the name; `Conflict`; `Full`.
+            OSError: a part that has one of its batches can't be synced, and nothing is put.
         """
         return self._add(lambda empty: empty.import_csv(csv, heading=heading, batch=batch), batch is not None)
 
@@ -131,14 +154,17 @@ class Folder:
         return self._add(lambda empty: empty.import_arrow(data, batch=batch), batch is not None)
 
     def delete(self, condition: str) -> int:
-        """Deletes the rows at which a condition is true; how many there were. Rows that come meanwhile aren't deleted.
+        """Deletes the rows at which a condition is true; how many there were. Rows that come meanwhile aren't deleted. Deletions of such rows
+        that the folder has already are on the disk before the new ones are put.
 
         Raises:
             Refused: a fault of the condition.
+            OSError: such a deletion can't be synced, and nothing is put.
         """
         held, names = self._joined()
         rows, part = held._delete_part(condition)
         if rows:
+            part_folder.keep_or_raise(self.path, resting.with_deletions(self.path, names, held, condition))
             part_folder.put(self.path, part)
         else:
             part_folder.keep(self.path, names)
@@ -158,7 +184,7 @@ class Folder:
             Refused: `BadName`, `BadRange`; a part's first fault, or `SchemaDiffers` of a part.
             Damaged: a part has other bytes than its name says.
         """
-        if not held:
+        if not arguments.flag_of("held", held):
             empty = self._heads().empty
         else:
             table = self.read()
@@ -169,17 +195,19 @@ class Folder:
         return True
 
     def apply(self, *offers: Union[bytes, bytearray, memoryview]) -> int:
-        """Adds what offers bring, all or nothing; how many batches are new. What was there already is on the disk afterwards, too.
+        """Adds what offers bring, all or nothing; how many batches are new. What was there already is on the disk afterwards, too: if something
+        is added, it is on the disk before.
 
         Raises:
             Refused: a fault of an offer, `SchemaDiffers`, `Conflict` or `Full`.
+            OSError: a part that has one of the batches can't be synced, and nothing is put.
         """
         held, names = self._joined()
         after, own = held, _empty_of(held)
         for offer in offers:
             after, own = after.apply(offer), own.apply(offer)
         if after != held:
-            self._put_beside(_lacked(own, held), names)
+            self._put_lacked(own, held, names)
         elif own != _empty_of(held):
             part_folder.keep(self.path, names)
         return after.check()[0] - held.check()[0]
@@ -192,10 +220,11 @@ class Folder:
             Busy: others have had the folder for ten seconds, and nothing is put or removed; or parts have come and gone for so long.
             OSError: the joined part, or the folder, can't be written or synced, and nothing is removed; or a part can't be removed.
         """
+        is_whole = arguments.flag_of("everything", everything)
         part_folder.sweep(self.path)
         removed, wait = 0, self._wait()
         while True:
-            names = self._chosen(everything)
+            names = self._chosen(is_whole)
             if len(names) < 2:
                 break
             count = self._pack(names)
@@ -203,7 +232,7 @@ class Folder:
                 wait.again()
                 continue
             removed, wait = removed + count, self._wait()
-            if everything:
+            if is_whole:
                 break
         return len(part_folder.listed(self.path)), removed
 
@@ -363,10 +392,23 @@ class Folder:
         load = load_of(_empty_of(held))
         new = held.merge(load).check()[0] - held.check()[0]
         if new:
-            self._put_beside(_lacked(load, held), names)
+            self._put_lacked(load, held, names)
         elif load.check()[0]:
             self._put(load)  # it may be that what was put before is not on the disk
         return new
+
+    def _put_lacked(self, own: Table, held: Table, names: list[str]) -> None:
+        """Puts what a table has and the parts of these names do not. Before that, those that have another batch of it are kept.
+
+        Raises:
+            Refused: `Conflict`.
+            Busy: others have had the folder for ten seconds, or parts have come for so long.
+            OSError: a part can't be synced, and nothing is put.
+        """
+        part = _lacked(own, held)
+        rest = Holdings.of(own).batches.keys() - Holdings.of(part).batches.keys()
+        part_folder.keep_or_raise(self.path, resting.with_batches(self.path, names, rest))
+        self._put_beside(part, names)
 
     def _put_beside(self, part: Table, names: list[str]) -> None:
         """Puts a part that goes with the parts of these names, if no others are there. If one came since, it is looked at, and the part is

@@ -8,7 +8,8 @@ import fcntl
 import os
 import re
 import secrets
-from typing import Iterable, Optional, Tuple
+import stat
+from typing import Callable, Dict, Iterable, Optional, Tuple
 
 from . import calls
 from .errors import Busy, Damaged, Refused
@@ -26,12 +27,20 @@ _NOTHING, _DONE, _FAILED, _TAKEN, _WROTE, _LISTED, _MISSING, _FOUND = range(8)
 #: The numbers of `Busy`, `Damaged` and `System`.
 _BUSY, _DAMAGED, _SYSTEM = 44, 45, 46
 
+#: The errors of a file system that has no locks, and of one that has no hard links. Any other one is a fault.
+_NO_LOCKS = frozenset([errno.ENOSYS, errno.EOPNOTSUPP, errno.ENOLCK])
+_NO_LINKS = frozenset([errno.EPERM, errno.EOPNOTSUPP, errno.EMLINK])
+
 _PART = re.compile(r"[0-9a-f]{32}\.lanes")
 
 #: What is told: a number of these, an error's number or how many bytes were written, and what a file has.
 _Told = Tuple[int, int, bytes]
 
 _IS_DONE: _Told = (_DONE, 0, b"")
+
+#: The folders that this process could not sync once, by device and number, with the error. A later sync may say that all is well, and what was
+#: not written then is lost all the same: the system tells it once. Each is held open, so that no other folder gets its number.
+_UNSYNCED_FOLDERS: Dict[Tuple[int, int], Tuple[int, OSError]] = {}
 
 
 class Driver:
@@ -118,13 +127,7 @@ class Driver:
         self._let_go()
         self._file = os.open(path, os.O_WRONLY | os.O_CREAT | os.O_EXCL | os.O_CLOEXEC, 0o666)
         self._path, self._temporary = path, name
-        try:
-            fcntl.flock(self._file, fcntl.LOCK_EX | fcntl.LOCK_NB)
-        except BlockingIOError:
-            raise FileExistsError(errno.EEXIST, "a sweep came before its lock", path) from None
-        except OSError:
-            pass  # without locks, and no sweep removes it
-        if not is_named(self._file, path):
+        if try_lock(self._file, path, fcntl.LOCK_EX) is False or not is_named(self._file, path):  # without locks no sweep removes it
             raise FileExistsError(errno.EEXIST, "a sweep came before its lock", path)
         return _IS_DONE
 
@@ -132,7 +135,7 @@ class Driver:
         return _WROTE, os.write(self._file, self._part[number:]), b""
 
     def _sync(self, number: int, name: str) -> _Told:
-        return self._synced(self._file)
+        return self._synced(os.fsync, self._file)
 
     def _link(self, number: int, names: str) -> _Told:
         """Gives the temporary the name of its part."""
@@ -142,7 +145,9 @@ class Driver:
             os.link(first, path)
         except FileExistsError:
             return _TAKEN, 0, b""
-        except OSError:  # the file system has no hard links
+        except OSError as fault:
+            if fault.errno not in _NO_LINKS:
+                raise
             if os.path.lexists(path):
                 return _TAKEN, 0, b""
             os.rename(first, path)
@@ -158,12 +163,12 @@ class Driver:
         return _IS_DONE
 
     def _settle(self, number: int, name: str) -> _Told:
-        return self._synced(self._opened)
+        return self._synced(sync_folder, self._opened)
 
-    def _synced(self, opened: int) -> _Told:
+    def _synced(self, sync: Callable[[int], None], opened: int) -> _Told:
         """Syncs a file or the folder."""
         try:
-            os.fsync(opened)
+            sync(opened)
         except OSError as fault:
             self.unsynced = fault, self._path
             raise
@@ -192,7 +197,7 @@ class Driver:
         self._path = os.path.join(self.folder, name)
         self._let_go()
         try:
-            self._file = os.open(self._path, os.O_RDONLY | os.O_CLOEXEC)
+            self._file = open_file(self._path)
         except FileNotFoundError:
             if leads_nowhere(self._path):
                 raise
@@ -231,21 +236,71 @@ def temporary() -> str:
     return f".part-{secrets.token_hex(8)}"
 
 
+def open_file(path: str) -> int:
+    """A file of a part's name, open. A pipe is not waited for.
+
+    Raises:
+        FileNotFoundError: it is gone.
+        OSError: it can't be opened, or is no regular file.
+    """
+    opened = os.open(path, os.O_RDONLY | os.O_CLOEXEC | os.O_NONBLOCK)
+    try:
+        if not stat.S_ISREG(os.fstat(opened).st_mode):
+            raise OSError(errno.EINVAL, "this is neither a file nor a folder", path)
+    except BaseException:
+        os.close(opened)
+        raise
+    return opened
+
+
+def sync_folder(opened: int) -> None:
+    """Syncs a folder that is open.
+
+    Raises:
+        OSError: it can't be synced, or could not once before.
+    """
+    found = os.fstat(opened)
+    identity = found.st_dev, found.st_ino
+    if identity in _UNSYNCED_FOLDERS:
+        fault = _UNSYNCED_FOLDERS[identity][1]
+        raise OSError(fault.errno, f"{fault.strerror}, at an earlier sync by this process")
+    try:
+        os.fsync(opened)
+    except OSError as fault:
+        _UNSYNCED_FOLDERS[identity] = os.dup(opened), fault
+        raise
+
+
+def try_lock(opened: int, path: str, kind: int) -> Optional[bool]:
+    """Whether the lock of what is open is held, or another process has it; None if the file system has no locks.
+
+    Raises:
+        OSError: it can't be locked.
+    """
+    try:
+        fcntl.flock(opened, kind | fcntl.LOCK_NB)
+    except BlockingIOError:
+        return False
+    except OSError as fault:
+        if fault.errno not in _NO_LOCKS:
+            raise OSError(fault.errno, f"this can't be locked: {fault.strerror}", path) from None
+        return None
+    return True
+
+
 def wait_for_lock(folder: str, opened: int, kind: int) -> bool:
     """Waits for the lock of a folder that is open; whether there is one.
 
     Raises:
         Busy: others have had it for ten seconds.
+        OSError: it can't be locked.
     """
     wait = Wait("others have had the folder for ten seconds", folder)
     while True:
-        try:
-            fcntl.flock(opened, kind | fcntl.LOCK_NB)
-            return True
-        except BlockingIOError:
-            wait.again()
-        except OSError:
-            return False
+        is_had = try_lock(opened, folder, kind)
+        if is_had is not False:
+            return is_had is not None
+        wait.again()
 
 
 def _names_once(folder: str) -> list[str]:
@@ -265,8 +320,12 @@ def leads_nowhere(path: str) -> bool:
 
 
 def is_named(file: int, path: str) -> bool:
-    """Whether an open file is the one of a path."""
+    """Whether an open file is the one of a path.
+
+    Raises:
+        OSError: it can't be told.
+    """
     try:
         return os.path.samestat(os.fstat(file), os.lstat(path))
-    except OSError:
+    except FileNotFoundError:
         return False

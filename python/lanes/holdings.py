@@ -39,6 +39,6 @@ class Holdings(NamedTuple):
 
 
 def _keep(batches: Dict[bytes, bytes], foreign: Dict[bytes, bytes], name: bytes, pieces: list[bytes]) -> None:
-    """Puts the ranges of a batch where they belong."""
+    """Puts the ranges of a batch in their place."""
     if pieces:
         (batches if name in batches else foreign)[name] = b"".join(pieces)

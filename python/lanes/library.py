@@ -1,4 +1,4 @@
-"""The shared library: where it is, and how the released one is taken out of its archive."""
+"""The shared library: which file it is, and how the released one is taken out of its archive."""
 
 from __future__ import annotations
 

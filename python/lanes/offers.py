@@ -3,7 +3,7 @@
 from __future__ import annotations
 
 import secrets
-from typing import TYPE_CHECKING, Any, List, Mapping, Optional, TypeVar
+from typing import TYPE_CHECKING, Any, List, Mapping, Optional, Tuple, TypeVar
 
 from . import arguments, calls
 from .holdings import Holdings
@@ -34,7 +34,7 @@ _REVERSED = {8: [0, 4, 2, 6, 1, 5, 3, 7], 16: [0, 2, 1, 3], 32: [0, 1], 64: [0]}
 
 def with_rows(table: _Table, columns: Mapping[str, Any], batch: Optional[BatchName]) -> _Table:
     """The table with the rows of arrays. They go in as offers of some batches each, which are made canonical one by one; so there is never
-    much in memory beside the arrays.
+    much in memory in addition to the arrays.
 
     Raises:
         Refused: `OutOfType` with the first such row and its column, `NumbersSpent`, and what `apply` refuses.
@@ -74,10 +74,10 @@ def _given(table: Table, columns: Mapping[str, Any]) -> List[Column]:
     for word in columns:
         if not isinstance(word, str):
             raise TypeError(f"columns: {word!r} is no name of a column: the columns {', '.join(table.columns)} are wanted")
-    given = {name.upper(): Column(name, data) for name, data in columns.items()}
-    if len(given) != len(columns) or set(given) != set(table.columns):
+    names = {arguments.column_of(word): word for word in columns}
+    if len(names) != len(columns) or set(names) != set(table.columns):
         raise ValueError(f"columns: the columns {', '.join(table.columns)} are wanted, each once, and these are {', '.join(columns) or 'none'}")
-    return [given[name] for name in table.columns]
+    return [Column(names[name], columns[names[name]]) for name in table.columns]
 
 
 def columns_of(frame: Any) -> dict[str, Any]:
@@ -132,6 +132,11 @@ class Column:
 
     def __len__(self) -> int:
         return len(self._values)
+
+    def kind(self) -> Tuple[str, int]:
+        """Whether the numbers are signed, i, or not, u, and how many bytes each has."""
+        kind = self._values.dtype
+        return kind.kind, getattr(kind, "itemsize", 8)
 
     def piece(self, first: int, last: int) -> ColumnData:
         """The data of some rows: 0 at a null."""

@@ -7,6 +7,7 @@ import contextlib
 import errno
 import fcntl
 import hashlib
+import io
 import os
 import re
 import secrets
@@ -16,7 +17,7 @@ from typing import Iterable, Iterator, Optional
 
 from . import calls, folder_driver
 from .errors import Busy
-from .folder_driver import Driver, is_named, leads_nowhere, wait_for_lock
+from .folder_driver import Driver, is_named, leads_nowhere, try_lock, wait_for_lock
 
 _TEMPORARY = re.compile(r"\.part-[0-9a-f]{16}")
 
@@ -39,6 +40,7 @@ def locked(folder: str, kind: int) -> Iterator[bool]:
 
     Raises:
         Busy: others have had it for ten seconds.
+        OSError: it can't be locked.
     """
     opened = os.open(folder, os.O_RDONLY | os.O_DIRECTORY | os.O_CLOEXEC)
     try:
@@ -59,8 +61,9 @@ def front_of(folder: str, name: str) -> tuple[bytes, int]:
 
     Raises:
         FileNotFoundError: it is gone.
+        OSError: it can't be read, or is no regular file.
     """
-    with open(os.path.join(folder, name), "rb", buffering=0) as file:
+    with _opened(folder, name) as file:
         return file.read(_FRONT) or b"", os.fstat(file.fileno()).st_size
 
 
@@ -69,9 +72,15 @@ def read_part(folder: str, name: str) -> bytes:
 
     Raises:
         FileNotFoundError: it is gone.
+        OSError: it can't be read, or is no regular file.
     """
-    with open(os.path.join(folder, name), "rb") as file:
-        return file.read()
+    with _opened(folder, name) as file:
+        return file.readall()
+
+
+def _opened(folder: str, name: str) -> io.FileIO:
+    """The file of a part's name, open."""
+    return io.FileIO(folder_driver.open_file(os.path.join(folder, name)))
 
 
 def put(folder: str, data: bytes) -> str:
@@ -114,6 +123,23 @@ def keep(folder: str, names: Iterable[str]) -> None:
     Raises:
         OSError: a part can't be read.
     """
+    for _, path in _unsynced_of(folder, names):
+        _warn(path)
+
+
+def keep_or_raise(folder: str, names: Iterable[str]) -> None:
+    """The same of parts on which a part rests that is put after them.
+
+    Raises:
+        OSError: one can't be read or synced.
+    """
+    first = next(_unsynced_of(folder, names), None)
+    if first is not None:
+        raise _could_not_be_synced(*first)
+
+
+def _unsynced_of(folder: str, names: Iterable[str]) -> Iterator[tuple[OSError, str]]:
+    """Keeps parts; of what can't be synced why, and its path."""
     with Driver(folder) as driver:
         for name in names:  # a turn for each: it costs the time of all that it was told, at each call
             try:
@@ -121,8 +147,12 @@ def keep(folder: str, names: Iterable[str]) -> None:
             except OSError:
                 if driver.unsynced is None:
                     raise
-                _warn(driver.unsynced[1])
+                yield driver.unsynced
                 driver.unsynced = None
+
+
+def _could_not_be_synced(fault: OSError, path: str) -> OSError:
+    return OSError(fault.errno, f"this could not be synced: {fault.strerror}", path)
 
 
 def make(folder: str, data: bytes) -> None:
@@ -161,20 +191,30 @@ def _new_folder(above: str, last: str, folder: str) -> tuple[int, str]:
         new = os.path.join(above, f".{last}.lanes-new-{secrets.token_hex(8)}")
         os.mkdir(new)
         try:
-            held = os.open(new, os.O_RDONLY | os.O_DIRECTORY | os.O_CLOEXEC)
-        except FileNotFoundError:
-            continue
-        try:
-            fcntl.flock(held, fcntl.LOCK_EX | fcntl.LOCK_NB)
-        except BlockingIOError:
-            os.close(held)
-            continue
-        except OSError:
-            pass  # without locks, and no command removes it
-        if is_named(held, new):
+            held = _held_folder(new)
+        except BaseException:
+            with contextlib.suppress(OSError):
+                os.rmdir(new)
+            raise
+        if held is not None:
             return held, new
-        os.close(held)
     raise Busy("no folder can be made", folder)
+
+
+def _held_folder(new: str) -> Optional[int]:
+    """A new folder, open and locked; None if it is gone, or another process has it, which removes it. Without locks no process does."""
+    try:
+        held = os.open(new, os.O_RDONLY | os.O_DIRECTORY | os.O_CLOEXEC)
+    except FileNotFoundError:
+        return None
+    try:
+        if try_lock(held, new, fcntl.LOCK_EX) is not False and is_named(held, new):
+            return held
+    except BaseException:
+        os.close(held)
+        raise
+    os.close(held)
+    return None
 
 
 def replace(folder: str, turn: calls.Turn, room: int) -> Optional[int]:
@@ -195,8 +235,7 @@ def replace(folder: str, turn: calls.Turn, room: int) -> Optional[int]:
         except FileExistsError:  # a sweep took the temporary
             return None
         if end == folder_driver.UNSYNCED and driver.unsynced is not None:
-            fault, path = driver.unsynced
-            raise OSError(fault.errno, f"this could not be synced: {fault.strerror}", path)
+            raise _could_not_be_synced(*driver.unsynced)
         return None if end == folder_driver.GONE else driver.removed
 
 
@@ -239,9 +278,9 @@ def size(folder: str, name: str) -> Optional[int]:
 
 
 def _sync(opened: int, path: str) -> None:
-    """Syncs an open folder or file. If that fails, a warning says so."""
+    """Syncs an open folder. If that fails, a warning says so."""
     try:
-        os.fsync(opened)
+        folder_driver.sync_folder(opened)
     except OSError:
         _warn(path)
 

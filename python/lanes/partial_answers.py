@@ -12,8 +12,8 @@ from .batch_name import BatchName, name_of
 #: How much room the text of what is covered is given, and how many times the bytes that it is of.
 _ROOM, _TIMES = 4096, 8
 
-#: The number of the format JSON.
-_JSON = 2
+#: The numbers of the formats text and JSON.
+_TEXT, _JSON = 0, 2
 
 
 class Partial(bytes):
@@ -63,6 +63,20 @@ class Partial(bytes):
 
     def __reduce__(self) -> tuple[object, ...]:
         return type(self), (bytes(self),)
+
+    def __repr__(self) -> str:
+        return f"<lanes.Partial of {len(self):,} bytes>"
+
+    __str__ = __repr__
+
+
+def judge(partial: bytes) -> None:
+    """Refuses bytes that are no partial answer.
+
+    Raises:
+        Refused: their first fault.
+    """
+    calls.given(calls.INSPECT_PARTIAL, _ROOM + _TIMES * len(partial), partial, _TEXT)
 
 
 def names_batch(summary: bytes, name: BatchName) -> bool:

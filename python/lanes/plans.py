@@ -16,11 +16,8 @@ from . import arguments, calls
 from .answer import Answer
 from .batch_name import BatchName
 from .errors import NotApart, Refused
-from .partial_answers import Partial, names_batch
+from .partial_answers import Partial, judge, names_batch
 from .table import Schema, Table
-
-#: The name that `Partial` had up to 0.5. It goes with the next release.
-Part = Partial
 
 #: How much room an answer's text is given at first, and a partial answer beside those that it is made of.
 _ROOM = 65_536
@@ -89,6 +86,8 @@ def combine(partials: Iterable[_Bytes]) -> Partial:
     level = [arguments.bytes_of("partials", partial) for partial in arguments.several("partials", "several partial answers", partials)]
     if not level:
         raise ValueError("partials: there are none to combine")
+    if len(level) == 1:
+        judge(level[0])
     while len(level) > 1:  # in pairs, so that a partial answer is read as often as the tree is high, and not once for each other one
         pairs = [_joined(one, other) for one, other in zip(level[0::2], level[1::2])]
         level = pairs + level[2 * len(pairs) :]
@@ -155,4 +154,4 @@ def _joined(one: bytes, other: bytes) -> bytes:
         raise
 
 
-__all__ = ["NotApart", "Part", "Partial", "Plan", "check_apart", "combine", "finish", "split"]
+__all__ = ["NotApart", "Partial", "Plan", "check_apart", "combine", "finish", "split"]

@@ -1,6 +1,6 @@
 """How a file is replaced: whole, under the lock that the program `lanes` takes too, by the same calls in the same order.
 
-The lock of a file is the new file. It lies beside the old one as `.NAME.lanes-lock`, and takes its place once it is written and synced.
+The lock of a file is the new file. It is next to the old one as `.NAME.lanes-lock`, and takes its place once it is written and synced.
 """
 
 from __future__ import annotations
@@ -115,7 +115,7 @@ def _is_written_in_place(path: Union[str, os.PathLike[str]]) -> bool:
 
 
 def _held(target: str, lock: str) -> int:
-    """The lock of a file, once it is had, as a descriptor."""
+    """The lock of a file, once this process has it, as a descriptor."""
     wait = Wait("another process has had the file for ten seconds", target)
     while True:
         file = _tried(lock)

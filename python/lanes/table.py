@@ -3,21 +3,25 @@
 from __future__ import annotations
 
 import ctypes
+import errno
 import functools
 import os
 import re
 import secrets
 import stat
 import zlib
-from typing import IO, TYPE_CHECKING, Any, Iterable, Mapping, NamedTuple, Optional, Tuple, Type, TypeVar, Union
+from typing import IO, TYPE_CHECKING, Any, Iterable, Iterator, Mapping, NamedTuple, Optional, Type, TypeVar, Union
 
 from . import arguments, calls, conditions, replacing
 from .answer import Answer, Value
 from .batch_name import BatchName, GivenName, name_of
+from .column_types import TYPES, ColumnTypes, holding, type_of
+from .errors import Refused
 from .partial_answers import Partial
 
 if TYPE_CHECKING:
-    from .columns import ColumnData
+    from .columns import Columns
+    from .folder import Folder
 
 #: How much room an answer's text is given at first, and a file beside its inputs.
 _ROOM = 65_536
@@ -34,8 +38,11 @@ _BAD_SCHEMA, _BAD_RANGE = 12, 23
 #: How many bytes have the front of a file, whatever its schema.
 _FRONT = 4096
 
-#: The types of columns, of 1, 2, 4 and 8 bytes.
-TYPES = ("TINYINT", "SMALLINT", "INTEGER", "BIGINT")
+#: Over how many shares a table is spread at most.
+_SHARES = 65_536
+
+#: What the name of a table or a column is.
+_WORD = re.compile("[A-Za-z][A-Za-z0-9_]{0,63}")
 
 #: How many bytes a field of a dump has at most, with its comma, by its type; and both fields of a row's name.
 _DIGITS, _NAMED = {"TINYINT": 5, "SMALLINT": 7, "INTEGER": 12, "BIGINT": 21}, 30
@@ -78,15 +85,15 @@ def _word(file: bytes, at: int) -> tuple[str, int]:
     return file[at + 1 : end].decode(), end
 
 
-class _Stream:
-    """`Table.__arrow_c_stream__`, which there is if the shim for Arrow is there or can be built."""
+class ArrowStream:
+    """`__arrow_c_stream__` of a table or a folder, which there is if the shim for Arrow is there or can be built."""
 
-    def __get__(self, table: Optional[Table], _: object = None) -> Any:
+    def __get__(self, owner: Union[Table, Folder, None], _: object = None) -> Any:
         from .arrow import has_shim, stream_of
 
         if not has_shim():
             raise AttributeError("__arrow_c_stream__: there is no shim for Arrow, since lanes was installed without a C compiler")
-        return self if table is None else functools.partial(stream_of, table)
+        return self if owner is None else functools.partial(stream_of, owner)
 
 
 class Table:
@@ -109,48 +116,103 @@ class Table:
         self._read_schema: Optional[Schema] = None
 
     @classmethod
-    def create(cls: Type[_Self], name: str, columns: Union[Mapping[str, str], Iterable[Tuple[str, str]]]) -> _Self:
+    def create(cls: Type[_Self], name: str, columns: ColumnTypes) -> _Self:
         """An empty table.
 
         Args:
             name: a letter, and up to 63 letters, digits or `_`.
             columns: 1 to 32 columns in order: of each its name and its type, TINYINT, SMALLINT, INTEGER or BIGINT, in upper or lower case.
+                INT is INTEGER, and INT8, INT16, INT32 and INT64 are the types of as many bits, as are numpy's, as `numpy.int16`.
 
         Raises:
             Refused: `BadSchema`.
-            TypeError: `columns` is neither a dict nor pairs of texts.
+            TypeError: `columns` is neither a dict nor pairs of a name and a type.
         """
-        words = [arguments.text_of("name", name).decode()]
+        words = [_judged("name", arguments.text_of("name", name).decode())]
         for pair in columns.items() if isinstance(columns, Mapping) else arguments.several("columns", "a dict or pairs", columns):
-            if not isinstance(pair, (tuple, list)) or len(pair) != 2 or not all(isinstance(word, str) for word in pair):
+            if not isinstance(pair, (tuple, list)) or len(pair) != 2 or not isinstance(pair[0], str):
                 raise TypeError(f"columns: {pair!r} is not a column's name and its type: columns are a dict, or pairs, as [('SITE', 'SMALLINT')]")
-            kind = arguments.text_of("columns", pair[1]).upper().decode()  # of ASCII letters alone
-            if kind not in TYPES:
+            kind = type_of(pair[1])
+            if kind is None and not isinstance(pair[1], (str, type)) and not hasattr(pair[1], "name"):
+                raise TypeError(f"columns: {pair[1]!r} is no name of a type, as 'SMALLINT'")
+            if kind is None:
                 raise calls.refused(_BAD_SCHEMA, sentence=f"the type {pair[1]!r} of column {pair[0]} is unknown: a type is TINYINT, SMALLINT, INTEGER or BIGINT")
-            words += [pair[0], kind]
-        if any(" " in word for word in words):
-            raise calls.refused(_BAD_SCHEMA)
+            words += [_judged("columns", arguments.text_of("columns", pair[0]).decode()), kind]
         return cls(calls.given(calls.CREATE, _ROOM, arguments.text_of("columns", " ".join(words))))
 
     @classmethod
+    def from_frame(cls: Type[_Self], name: str, frame: Any, *, batch: Optional[GivenName] = None) -> _Self:
+        """The table of a frame of pandas: its columns and its rows. A column's type is the least one into which all numbers of the frame's type go:
+        int8 becomes TINYINT, int16 and uint8 SMALLINT, int32 and uint16 INTEGER, and int64, uint32 and uint64 BIGINT, as do numbers of Python.
+        A column of floats is refused, also one that pandas made of whole numbers with nulls: `frame.convert_dtypes()` makes Int64 of it.
+
+        Args:
+            name: the table's name.
+            batch: the first batch's name, as for `import_csv`.
+
+        Raises:
+            Refused: `BadSchema` if a column's name can't be that of a table's column; `OutOfType` of a number past 64 bits; and others.
+            TypeError: it is no frame, or values are no whole numbers.
+        """
+        from .offers import columns_of
+
+        return cls._of_columns(name, columns_of(frame), batch)
+
+    @classmethod
+    def from_arrow(cls: Type[_Self], name: str, data: Any, *, batch: Optional[GivenName] = None) -> _Self:
+        """The table of whatever gives Arrow's stream: its columns, of int8, int16, int32 or int64, and its rows.
+
+        Args:
+            name: the table's name.
+            batch: the first batch's name, as for `import_csv`.
+
+        Raises:
+            Refused: `BadSchema` if a column's name can't be that of a table's column; and others.
+            TypeError: it gives no stream, or a column has another type.
+            OSError: the stream fails.
+        """
+        from .arrow_reading import columns_of
+
+        return cls._of_columns(name, columns_of(data), batch)
+
+    @classmethod
+    def _of_columns(cls: Type[_Self], name: str, columns: Mapping[str, Any], batch: Optional[GivenName]) -> _Self:
+        """The table of columns that were given."""
+        from .offers import Column
+
+        given = {word: Column(word, data) for word, data in columns.items()}
+        empty = cls.create(name, [(word, holding(*column.kind())) for word, column in given.items()])
+        return empty.import_columns(columns, batch=batch)
+
+    @classmethod
     def open(cls: Type[_Self], path: Union[str, os.PathLike[str]]) -> _Self:
-        """The table of a file. The file isn't copied: the system maps it. A pipe is read to its end; a folder of
-        parts is opened by `lanes.Folder`.
+        """The table of a file. The file isn't copied: the system maps it. A pipe is read to its end; a folder of parts is opened by
+        `lanes.Folder`.
 
         The file may be replaced by another one meanwhile, as `save` and the program `lanes` do, and this table is as it was. It must not
         be overwritten in its place.
 
         Raises:
+            IsADirectoryError: it is a folder.
             OSError: the file can't be opened.
-            Refused: the file's first fault.
+            Refused: the file's first fault. The sentence names the path.
         """
-        with open(arguments.path_of("path", path), "rb", buffering=0) as file:
+        name = arguments.path_of("path", path)
+        try:
+            file = open(name, "rb", buffering=0)
+        except IsADirectoryError:
+            raise IsADirectoryError(errno.EISDIR, "this is a folder, and not a file: lanes.Folder opens a folder of parts", name) from None
+        with file:
             found = os.fstat(file.fileno())
             if stat.S_ISREG(found.st_mode):
                 table = cls(calls.Mapped.of_file(file.fileno(), found.st_size) if found.st_size else b"")
             else:
                 table = cls(file.read())
-        table._asked()
+        try:
+            table._asked()
+        except Refused as refusal:
+            first, second, *_ = (*refusal.place, 0, 0)
+            raise calls.refused(refusal.number, first, second, f"{name}: {refusal.sentence}") from None
         return table
 
     @classmethod
@@ -209,6 +271,16 @@ class Table:
         assert found
         return int(found[1]), int(found[2])
 
+    def digest(self) -> str:
+        """The digest of what the table holds: the first 32 hexadecimal digits of the SHA-512 of its file. Replicas of one table that hold the
+        same have the same digest, and, but for a collision, only these: so they are compared without moving them. `lanes check --digest`
+        prints it.
+
+        Raises:
+            Refused: the first fault of the file.
+        """
+        return self._asked().digest().decode()
+
     def inspect(self) -> dict[str, Any]:
         """What is in the table, under the keys of `lanes inspect --format json`, without those of stored rows and codings: `table`,
         `batches`, `live`, `ranges`, `bytes`, and `columns`, a list of dicts with `column`, `type`, `nulls`, `values`, `least` and
@@ -239,10 +311,6 @@ class Table:
         """
         return Partial(self._asked().partial(self._length() + _ROOM, arguments.text_of("sql", sql)))
 
-    def part(self, sql: str) -> Partial:
-        """`partial`, by its name up to 0.5. It goes with the next release."""
-        return self.partial(sql)
-
     def queries(self, sqls: Iterable[str]) -> list[Answer]:
         """The answers of several queries, in order.
 
@@ -254,9 +322,26 @@ class Table:
 
     def dump(self, names: bool = False) -> str:
         """The live rows as comma-separated values below a heading; with names the columns BATCH and ORDINAL come first."""
+        has_names = arguments.flag_of("names", names)
         widths = [_DIGITS[kind] for kind in self.columns.values()]
-        room = _ROOM + (sum(widths) + names * _NAMED) * self._asked().rows()
-        return calls.given(calls.DUMP, room, self._file, names).decode()
+        room = _ROOM + (sum(widths) + has_names * _NAMED) * self._asked().rows()
+        return calls.given(calls.DUMP, room, self._file, has_names).decode()
+
+    def head(self, count: int = 5) -> Answer:
+        """The first live rows, in order of row name, as an answer whose headings are the columns. No more batches are read than have them.
+
+        Args:
+            count: how many there are at most.
+
+        Raises:
+            ValueError: `count` is less than 0.
+        """
+        from .first_rows import first_rows
+
+        most = arguments.number_of("count", count)
+        if most < 0:
+            raise ValueError(f"count: 0 rows or more are wanted, and this is {most}")
+        return Answer(list(self.columns), first_rows(self, most))
 
     def import_csv(self: _Self, csv: Csv, *, heading: bool = True, batch: Optional[GivenName] = None) -> _Self:
         """The table with more rows: those of comma-separated values. A field is a whole number, or empty for a null.
@@ -272,18 +357,19 @@ class Table:
             ValueError: `batch` is no name; or `csv` is a text without a line's end that ends as a path does, or is the path of a file.
             TypeError: `csv` is neither a text nor bytes nor a file.
         """
-        text = _text_of(csv)
+        has_heading, text = arguments.flag_of("heading", heading), _text_of(csv)
         origin, number = name_of(batch) if batch is not None else (0, 0)
         words = (ctypes.c_uint64 * _WORDS)(*(secrets.randbits(64) for _ in range(_WORDS)))
         room = self._length() + len(text) + _ROOM
-        return self._made(calls.made(calls.IMPORT, room, self._file, text, heading, origin, number, ctypes.addressof(words), _WORDS))
+        return self._made(calls.made(calls.IMPORT, room, self._file, text, has_heading, origin, number, ctypes.addressof(words), _WORDS))
 
-    def to_numpy(self, columns: Optional[Iterable[str]] = None, where: str = "") -> dict[str, ColumnData]:
-        """The live rows, in order of row name, as arrays of numpy: of each column its values, of the column's own type, and which rows are null.
+    def to_numpy(self, columns: Optional[Iterable[str]] = None, where: str = "") -> Columns:
+        """The live rows, in order of row name, as arrays of numpy: a dict of `ColumnData`, of each column its values, of the column's own type,
+        and which rows are null.
 
         Args:
             columns: the columns that are wanted, in order. Without them all.
-            where: a condition, as after WHERE in a query. Without it all live rows.
+            `where`: a condition, as after WHERE in a query. Without it all live rows.
 
         Raises:
             Refused: `NoSuchColumn`, or a fault of the condition.
@@ -298,6 +384,25 @@ class Table:
 
         return frame(self, columns, where)
 
+    def batches(self, rows: int, columns: Optional[Iterable[str]] = None, where: str = "") -> Iterator[Columns]:
+        """The same in pieces, so that a table is read that has no room in memory as arrays: each piece is what `to_numpy` gives of the next
+        rows, and its `to_pandas()` is a frame.
+
+            for piece in table.batches(1_000_000):
+                print(piece["HITS"].values.max())
+
+        Args:
+            rows: how many rows a piece has; the last one may have fewer.
+            columns, `where`: as of `to_numpy`. They are judged at once.
+
+        Raises:
+            Refused: `NoSuchColumn`, or a fault of the condition.
+            ValueError: `rows` is less than 1.
+        """
+        from .columns import pieces
+
+        return pieces(self, rows, columns, where)
+
     if TYPE_CHECKING:
 
         def __arrow_c_stream__(self, requested_schema: object = None) -> object:
@@ -310,7 +415,7 @@ class Table:
             """
 
     else:
-        __arrow_c_stream__ = _Stream()
+        __arrow_c_stream__ = ArrowStream()
 
     def import_arrow(self: _Self, data: Any, *, batch: Optional[GivenName] = None) -> _Self:
         """The table with the rows of whatever gives Arrow's stream, as a table of pyarrow, a frame of polars or another table. Its columns
@@ -351,7 +456,7 @@ class Table:
         return self.import_columns(columns_of(frame), batch=batch)
 
     def delete(self: _Self, condition: str) -> _Self:
-        """The table without the rows at which a condition is true: what stands after WHERE in a query.
+        """The table without the rows at which a condition is true: what comes after WHERE in a query.
 
         Raises:
             Refused: a fault of the condition with its byte, or of the file.
@@ -383,7 +488,7 @@ class Table:
         end = begin if last is None else _ordinal("last", last)
         if end < begin:
             raise calls.refused(_BAD_RANGE)
-        if held:
+        if arguments.flag_of("held", held):
             file = self._asked().without_held(self._length() + _ROOM, name.origin, name.number, begin, end)
             return self if file is None else self._made(file)
         parts = [name.origin.to_bytes(4, "little"), name.number.to_bytes(4, "little"), begin.to_bytes(2, "little"), end.to_bytes(2, "little")]
@@ -405,22 +510,22 @@ class Table:
         go to the first one.
 
         Raises:
-            ValueError: `count` is less than 1.
+            ValueError: `count` is less than 1, or more than 65,536.
         """
         shares = arguments.number_of("count", count)
-        if shares < 1:
-            raise ValueError(f"count: a table is spread over 1 share or more, and this is {shares}")
+        if not 1 <= shares <= _SHARES:
+            raise ValueError(f"count: a table is spread over 1 to {_SHARES:,} shares, and this is {shares}")
         return [self._made(file) for file in self._asked().spread(self._length() + shares * _FRONT + _ROOM, shares)]
 
-    def merge(self: _Self, *others: Table) -> _Self:
-        """The table that has what all of them hold, in whichever order they come.
+    def merge(self: _Self, *others: Union[Table, Folder]) -> _Self:
+        """The table that has what all of them hold, in whichever order they come. Of a folder it is what all parts hold.
 
         Raises:
             Refused: `SchemaDiffers`; `Conflict` with a batch that has two lists of rows; or a fault of a file.
         """
         if not others:
             return self
-        level = [self._file, *(arguments.is_of("others", Table, other)._file for other in others)]
+        level = [self._file, *(_table_of(other)._file for other in others)]
         while len(level) > 1:  # in pairs, so that a row is copied as often as the tree is high, and not once for each table
             pairs = [_joined(one, other) for one, other in zip(level[0::2], level[1::2])]
             level = [*pairs, *level[2 * len(pairs) :]]
@@ -530,6 +635,32 @@ class Table:
     def __repr__(self) -> str:
         kind = f"{'lanes.' * (type(self) is Table)}{type(self).__name__}"
         return f"<{kind} {self.name} of {self._length()} bytes>" if self._held is not None else f"<{kind}, closed>"
+
+
+def _table_of(other: object) -> Table:
+    """A table that is merged, or what a folder holds.
+
+    Raises:
+        TypeError: it is neither.
+    """
+    from .folder import Folder
+
+    if isinstance(other, Folder):
+        return other.read()
+    if isinstance(other, Table):
+        return other
+    raise arguments.wrong("others", "a Table or a Folder", other)
+
+
+def _judged(argument: str, word: str) -> str:
+    """The name of a table or a column.
+
+    Raises:
+        Refused: `BadSchema`.
+    """
+    if not _WORD.fullmatch(word):
+        raise calls.refused(_BAD_SCHEMA, sentence=f"{argument}: {word!r} is no name: a name is a letter, and up to 63 letters, digits or _")
+    return word
 
 
 def _joined(one: calls.Input, other: calls.Input) -> calls.Input:

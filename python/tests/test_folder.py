@@ -5,7 +5,6 @@ from __future__ import annotations
 
 import contextlib
 import fcntl
-import hashlib
 import os
 import pathlib
 import pickle
@@ -21,28 +20,11 @@ import unittest.mock
 from typing import Callable, Iterator
 
 import lanes
+from folders import InFolder, Syncs, fresh
 from lanes import Busy, Damaged, Folder, Refused, Table, folder_driver, part_folder, waiting
 
 #: The program: the script runs the one that was built here or the released one.
 PROGRAM = os.environ.get("LANES_PROGRAM", os.fspath(pathlib.Path(__file__).resolve().parent.parent.parent / "lanes"))
-
-
-class InFolder(unittest.TestCase):
-    def setUp(self) -> None:
-        room = tempfile.TemporaryDirectory(prefix="lanes-folder-")
-        self.addCleanup(room.cleanup)
-        self.room = room.name
-        self.path = os.path.join(self.room, "site")
-        self.folder = Folder.create(self.path, "T", {"A": "INTEGER", "B": "BIGINT"})
-        self.empty = Table.create("T", {"A": "INTEGER", "B": "BIGINT"})
-
-    def only_parts(self, count: int) -> None:
-        names = os.listdir(self.path)
-        self.assertEqual(len(names), count, names)
-        for name in names:
-            data = pathlib.Path(self.path, name).read_bytes()
-            self.assertEqual(name, hashlib.sha512(data).hexdigest()[:32] + ".lanes")
-            Table.from_bytes(data)
 
 
 class Calls(InFolder):
@@ -192,25 +174,6 @@ class Calls(InFolder):
         self.assertEqual(self.folder.pack(everything=True), (1, 1))
         os.symlink(os.path.join(self.path, "." + name), os.path.join(self.path, name))
         self.assertEqual(len(self.folder.read()), 1)
-
-
-class Syncs:
-    """`os.fsync`, which fails at one of its calls, and what was synced."""
-
-    def __init__(self, fails_at: int = 0) -> None:
-        self.fails_at = fails_at
-        self.paths: list[str] = []
-
-    def __call__(self, opened: int) -> None:
-        self.paths.append(os.path.basename(os.readlink(f"/proc/self/fd/{opened}")))
-        if len(self.paths) == self.fails_at:
-            raise OSError(5, "Input/output error")
-
-    def of(self, act: Callable[[], object]) -> list[str]:
-        """What a call syncs, in order."""
-        with unittest.mock.patch.object(os, "fsync", self):
-            act()
-        return self.paths
 
 
 class Habits(InFolder):
@@ -370,7 +333,7 @@ class OnTheDisk(InFolder):
             "a load": lambda: self.folder.import_csv(csv, heading=False),
             "a named load": lambda: self.folder.import_csv(csv, **named),  # type: ignore[arg-type]
             "an offer": lambda: self.folder.apply(offer),
-            "a delete": lambda: self.folder.delete("A = 1"),
+            "a delete": lambda: self.folder.delete("A = 2"),
             "a delete of rows": lambda: self.folder.delete_rows("1.7", 0),
         }.items():
             before = {*self.folder.parts()}
@@ -565,10 +528,10 @@ class Packs(InFolder):
     def test_a_failed_write_leaves_nothing(self) -> None:
         before = os.listdir(self.path)
         for call in "write", "fsync":
-            with unittest.mock.patch.object(part_folder.os, call, side_effect=OSError(28, "no room")), self.assertRaises(OSError):
+            with fresh(), unittest.mock.patch.object(part_folder.os, call, side_effect=OSError(28, "no room")), self.assertRaises(OSError):
                 self.folder.import_csv("1,1\n", heading=False)
             self.assertEqual(os.listdir(self.path), before)
-            with unittest.mock.patch.object(part_folder.os, call, side_effect=OSError(28, "no room")), self.assertRaises(OSError):
+            with fresh(), unittest.mock.patch.object(part_folder.os, call, side_effect=OSError(28, "no room")), self.assertRaises(OSError):
                 Folder.create(os.path.join(self.room, "new"), "T", {"A": "INTEGER"})
             self.assertEqual(os.listdir(self.room), ["site"])
 

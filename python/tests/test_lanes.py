@@ -416,12 +416,37 @@ class Library(unittest.TestCase):
                 kept = library._unpack("x.so", hashlib.sha256(b"machine code").hexdigest())
                 self.assertEqual(kept.read_bytes(), b"machine code")
 
+    def test_a_library_that_is_kept_is_for_every_user(self) -> None:
+        with tempfile.TemporaryDirectory() as room, unittest.mock.patch.object(library, "_RELEASE", pathlib.Path(room)):
+            path = library.kept("x.so", lambda part: None if part.write_bytes(b"machine code") else None)
+            self.assertEqual((path, path.stat().st_mode & 0o7777), (pathlib.Path(room, "unpacked", "x.so"), 0o755))
+            self.assertEqual(os.listdir(path.parent), ["x.so"])
+
+    def test_a_shim_is_built_anew_once_its_source_is_another_one(self) -> None:
+        names = []
+        with tempfile.TemporaryDirectory() as room, unittest.mock.patch.object(library, "_SHIM", pathlib.Path(room)), unittest.mock.patch.object(library, "_PACKAGED", pathlib.Path(room)):
+            for source, header in ("1", "1"), ("2", "1"), ("2", "2"), ("1", "1"):
+                pathlib.Path(room, "lanes_arrow.c").write_text(source)
+                pathlib.Path(room, "lanes_arrow.h").write_text(header)
+                with unittest.mock.patch.object(library, "kept", lambda name, _: names.append(name) or name), unittest.mock.patch.object(library.ctypes, "CDLL"):
+                    library.load_shim()
+        self.assertEqual((len({*names}), names[0] == names[3]), (3, True))
+
     def test_a_level_of_processors_needs_all_its_flags(self) -> None:
         second, third = (flags for _, flags in library._LEVELS)
         for flags, level in [(second | third, "x86-64-v3"), (second, "x86-64-v2"), (second | {"avx"}, "x86-64-v2"), (second - {"cx16"}, None), (third, None)]:
             text = f"processor : 0\nflags\t\t: fpu {' '.join(sorted(flags))}\n"
             with unittest.mock.patch.object(pathlib.Path, "read_text", return_value=text):
                 self.assertEqual(library._level(), level)
+
+
+class Notebooks(unittest.TestCase):
+    def test_a_long_answer_shows_its_first_rows_and_how_many_there_are(self) -> None:
+        table = Table.create("T", {"A": "INTEGER"}).import_csv("".join(f"{n}\n" for n in range(5000)), heading=False)
+        html = table.query("SELECT A,COUNT(*) FROM T GROUP BY A")._repr_html_()
+        shown = html.count("<tr><td>")
+        self.assertTrue(0 < shown < 1000 and len(html) < 100_000)
+        self.assertIn(f"and {5000 - shown:,} more rows", html)
 
 
 class Module(unittest.TestCase):

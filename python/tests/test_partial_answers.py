@@ -31,12 +31,13 @@ class PartialAnswers(unittest.TestCase):
         merged = tables[0].merge(*tables[1:])
         self.assertEqual(lanes.combine(each.partial(SQL) for each in tables), merged.partial(SQL))
         self.assertEqual(lanes.combine([ONE.partial(SQL)]), ONE.partial(SQL))
+        for data in b"x", b"", ONE.to_bytes(), ONE.partial(SQL)[:-1], ONE.partial(SQL) + b"x":
+            for given in [data], [data, ONE.partial(SQL)]:
+                with self.assertRaises(lanes.Refused) as told:
+                    lanes.combine(given)
+                self.assertIn(told.exception.name, ("Truncated", "BadMagic", "TrailingBytes"))
         with self.assertRaises(ValueError):
             lanes.combine([])
-
-    def test_the_names_up_to_0_5_are_second_names(self) -> None:
-        self.assertEqual(ONE.part(SQL), ONE.partial(SQL))
-        self.assertIs(lanes.Part, lanes.Partial)
 
     def test_a_plan_asks_combines_and_finishes(self) -> None:
         plan = pickle.loads(pickle.dumps(lanes.split(SQL, ONE)))

@@ -12,6 +12,7 @@ import subprocess
 import sys
 import tempfile
 import threading
+import time
 import unittest
 from unittest import mock
 
@@ -133,6 +134,29 @@ class Replaced(unittest.TestCase):
             self.assertEqual(self.get(), b"old")
         thread.join(30)
         self.assertEqual((self.get(), os.listdir(self.folder)), (b"new", ["t"]))
+
+    def test_a_lock_that_another_has_taken_over_stays(self) -> None:
+        """As when the file system lost the lock, or the file was removed by hand."""
+        self.put()
+        held = replacing.Held(self.path)
+        os.unlink(self.lock)
+        with open(self.lock, "wb") as other:
+            fcntl.flock(other, fcntl.LOCK_EX)
+            held.release()
+            self.assertTrue(os.path.samestat(os.stat(self.lock), os.fstat(other.fileno())))
+            with mock.patch.object(waiting, "LONGEST", 0.1), self.assertRaises(Busy):
+                replacing.replace(self.path, b"new")
+        self.assertEqual((self.get(), sorted(os.listdir(self.folder))), (b"old", [".t.lanes-lock", "t"]))
+
+    def test_a_clock_that_is_set_changes_no_wait(self) -> None:
+        times = iter([1e9, *[1e9 + 3600] * 1000])
+        with mock.patch.object(waiting.time, "time", lambda: next(times)), mock.patch.object(waiting, "LONGEST", 0.2):
+            wait = waiting.Wait("others have it", self.path)
+            begun = time.monotonic()
+            with self.assertRaises(Busy):
+                while True:
+                    wait.again()
+            self.assertTrue(0.2 <= time.monotonic() - begun < 20)
 
     def test_a_folder_that_is_not_there_is_an_error_at_once(self) -> None:
         with self.assertRaises(FileNotFoundError):

@@ -4,6 +4,7 @@ from __future__ import annotations
 
 import copy
 import gc
+import hashlib
 import io
 import os
 import pathlib
@@ -14,7 +15,7 @@ import unittest
 import unittest.mock
 import weakref
 
-from lanes import BatchName, OutOfMemory, Refused, Table, arrow, library
+from lanes import BatchName, Folder, OutOfMemory, Refused, Table, arrow, library, offers
 from lanes import table as table_module
 
 
@@ -53,11 +54,71 @@ class Descriptions(unittest.TestCase):
         for other in copy.copy(visits()), copy.deepcopy(visits()), pickle.loads(pickle.dumps(visits())):
             self.assertEqual((other, len(other)), (visits(), 5))
 
+    def test_the_digest_is_that_of_the_file_and_of_a_folder_of_the_same(self) -> None:
+        table = visits().delete("SITE = 3")
+        self.assertEqual(table.digest(), hashlib.sha512(table.to_bytes()).hexdigest()[:32])
+        with tempfile.TemporaryDirectory() as room:
+            folder = Folder.of(os.path.join(room, "visits"), visits())
+            self.assertEqual(folder.digest(), visits().digest())
+            folder.delete("SITE = 3")
+            self.assertEqual(folder.digest(), table.digest())
+
     def test_equal_tables_have_equal_hashes(self) -> None:
         other = visits().delete("SITE = 3")
         self.assertEqual(len({visits(), visits(), other}), 2)
         self.assertNotEqual(visits(), other)
         self.assertNotEqual(visits(), visits().to_bytes())
+
+
+class Rows(unittest.TestCase):
+    def test_the_first_rows_are_those_of_a_dump(self) -> None:
+        table = visits().delete("SITE = 2")
+        self.assertEqual(table.head(), [(1, 10), (1, 7), (3, 20), (1, 30)][:5])
+        self.assertEqual(table.head().headings, ["SITE", "HITS"])
+        self.assertEqual([len(table.head(count)) for count in range(6)], [0, 1, 2, 3, 4, 4])
+        self.assertEqual(visits().head(3)[2], (2, None))
+        many = Table.create("T", {"A": "INTEGER", "B": "TINYINT"}).import_csv("".join(f"{n},{'' if n % 3 else n % 9}\n" for n in range(1100)), heading=False)
+        self.assertEqual(many.delete("A < 500").head(700)[-1], (1099, None))
+        self.assertEqual(many.head(520)[510:], [(n, None if n % 3 else n % 9) for n in range(510, 520)])
+        self.assertEqual(Table.create("T", {"A": "BIGINT"}).head(), [])
+
+    def test_a_folder_is_merged_as_a_table(self) -> None:
+        with tempfile.TemporaryDirectory() as room:
+            folder = Folder.of(os.path.join(room, "site"), visits())
+            folder.delete("SITE = 1")
+            other = Table.create("Visits", visits().columns).import_csv("SITE,HITS\n5,5\n", batch="3.1")
+            self.assertEqual(other.merge(folder, visits()), other.merge(folder.read()))
+
+    def test_a_file_at_fault_and_a_folder_are_named(self) -> None:
+        with tempfile.TemporaryDirectory() as room:
+            path = os.path.join(room, "t.lanes")
+            for data, name in (b"PNG " * 20, "BadMagic"), (b"", "Truncated"), (visits().to_bytes()[:-1], "Truncated"):
+                with open(path, "wb") as file:
+                    file.write(data)
+                with self.assertRaises(Refused) as caught:
+                    Table.open(path)
+                self.assertEqual(caught.exception.name, name)
+                self.assertTrue(caught.exception.sentence.startswith(f"{path}: "), caught.exception)
+            with self.assertRaises(IsADirectoryError) as told:
+                Table.open(room)
+            self.assertEqual(told.exception.filename, room)
+            self.assertIn("lanes.Folder", str(told.exception))
+
+    def test_rows_have_names(self) -> None:
+        answer = visits().query("SELECT SITE,SUM(HITS) FROM VISITS GROUP BY SITE")
+        for row in answer[0], pickle.loads(pickle.dumps(answer))[0], pickle.loads(pickle.dumps(answer[0])), copy.deepcopy(answer)[0]:
+            self.assertEqual((row, row._fields, row._asdict()), ((1, 47), ("SITE", "SUM(HITS)"), {"SITE": 1, "SUM(HITS)": 47}))
+            self.assertIsInstance(row, tuple)
+        self.assertEqual(pickle.loads(pickle.dumps(answer)), answer)
+
+    def test_what_is_shown_of_an_answer_is_a_short_line(self) -> None:
+        self.assertEqual(repr(visits().query("SELECT COUNT(*) FROM VISITS")), "Answer(['COUNT(*)'], [(5,)])")
+        many = Table.create("T", {"A": "INTEGER"}).import_csv("".join(f"{n}\n" for n in range(1000)), heading=False)
+        self.assertEqual(repr(many.query("SELECT A,COUNT(*) FROM T GROUP BY A")), "<lanes.Answer of 1,000 rows: A, COUNT(*)>")
+        wide = many.query(f"SELECT {','.join(['COUNT(DISTINCT A)'] * 40)} FROM T")
+        self.assertRegex(repr(wide), "^<lanes.Answer of 1 row: COUNT.*[.][.]>$")
+        self.assertLess(len(repr(wide)), 120)
+        self.assertRegex(repr(many.partial("SELECT A FROM T GROUP BY A")), "^<lanes.Partial of [0-9,]+ bytes>$")
 
 
 class Habits(unittest.TestCase):
@@ -131,8 +192,11 @@ class Habits(unittest.TestCase):
         if not hasattr(visits(), "__arrow_c_stream__"):
             self.skipTest("there is no C compiler")
         for call, answer in ("lanes_arrow_stream", 12), ("lanes_arrow_room", None):
-            with unittest.mock.patch.object(arrow._shim(), call, return_value=answer), self.assertRaises(OutOfMemory):
-                visits().__arrow_c_stream__()
+            free = unittest.mock.Mock(side_effect=arrow._shim().lanes_arrow_free)
+            with unittest.mock.patch.object(arrow._shim(), call, return_value=answer), unittest.mock.patch.object(arrow._shim(), "lanes_arrow_free", free):
+                with self.assertRaises(OutOfMemory):
+                    visits().__arrow_c_stream__()
+            self.assertEqual(free.call_count, 1)
         self.assertTrue(visits().__arrow_c_stream__())
 
 
@@ -146,14 +210,29 @@ class Lenience(unittest.TestCase):
 
     def test_a_type_that_is_none_is_named(self) -> None:
         with self.assertRaises(Refused) as caught:
-            Table.create("T", {"A": "INT"})
-        self.assertEqual((caught.exception.name, caught.exception.sentence), ("BadSchema", "the type 'INT' of column A is unknown: a type is TINYINT, SMALLINT, INTEGER or BIGINT"))
+            Table.create("T", {"A": "INTEGRAL"})
+        self.assertEqual((caught.exception.name, caught.exception.sentence), ("BadSchema", "the type 'INTEGRAL' of column A is unknown: a type is TINYINT, SMALLINT, INTEGER or BIGINT"))
+
+    def test_types_have_other_names(self) -> None:
+        for word, kind in [("int", "INTEGER"), ("INT8", "TINYINT"), ("Int16", "SMALLINT"), ("int32", "INTEGER"), ("int64", "BIGINT"), ("bigint", "BIGINT")]:
+            self.assertEqual(Table.create("T", {"A": word}).columns, {"A": kind})
 
     def test_a_name_with_spaces_is_no_name(self) -> None:
         for name, columns in [("T A INTEGER", {"B": "INTEGER"}), ("T", {"A INTEGER B": "INTEGER"}), ("T", {"A": "\u0131nteger"})]:
             with self.subTest(name=name), self.assertRaises(Refused) as caught:
                 Table.create(name, columns)
             self.assertEqual(caught.exception.name, "BadSchema")
+
+    def test_only_ascii_letters_are_taken_in_either_case(self) -> None:
+        """`\u0131`, `\u00df` and `\ufb01` have capital letters of ASCII, and are no letters of a name."""
+        for word, name in ("\u0131", "I"), ("\u00df", "SS"), ("\ufb01", "FI"):
+            table = Table.create("T", {name: "INTEGER"})
+            with self.subTest(word=word):
+                with self.assertRaisesRegex(ValueError, f"columns: the columns {name} are wanted, each once, and these are {word}"):
+                    table.import_columns({word: [1]})
+                for act in lambda: table.to_numpy([word]), lambda: table.query(f"SELECT {word} FROM T"), lambda: Table.create("T", {word: "INTEGER"}):
+                    with self.assertRaises(Refused):
+                        act()
 
     def test_a_batch_is_named_by_a_text_or_a_pair(self) -> None:
         empty = Table.create("T", {"A": "INTEGER"})
@@ -237,6 +316,13 @@ class Changes(unittest.TestCase):
         words = [7] * 7 + [(3 << 32) + 16]  # of seven the high bits are 0, so they serve for no name
         with unittest.mock.patch.object(table_module.secrets, "randbits", side_effect=words):
             self.assertEqual(empty.import_csv("A\n1\n").dump(names=True), "BATCH,ORDINAL,A\n3.17,0,1\n")
+
+    def test_names_are_drawn_of_all_origins_and_numbers(self) -> None:
+        names = [offers._drawn(visits(), 1) for _ in range(64)]
+        for drawn in {name.origin for name in names}, {name.number for name in names}:
+            self.assertEqual(len(drawn), 64)
+            self.assertGreater(max(drawn), 1 << 31)
+            self.assertLess(min(drawn), 1 << 31)
 
     def test_rows_that_are_none_are_refused(self) -> None:
         for batch, first, last, name in [("1.1", 2, 1, "BadRange"), ("1.0", 0, 0, "BadName"), ("0.1", 0, 0, "BadName")]:

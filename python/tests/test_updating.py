@@ -13,6 +13,7 @@ import unittest.mock
 from typing import Any
 
 import lanes
+import lanes.replacing
 from lanes import Busy, Table, waiting
 
 #: The program: the script runs the one that was built here or the released one.
@@ -49,6 +50,21 @@ class Updating(unittest.TestCase):
             self.assertEqual(self.count(), 0)
         self.assertEqual(self.count(), 2)
         self.only()
+
+    def test_a_link_that_is_switched_meanwhile_writes_no_file_over_another(self) -> None:
+        link, other = os.path.join(self.folder, "link"), os.path.join(self.folder, "other.lanes")
+        self.empty.import_csv("7\n", heading=False, batch="7.7").save(other)
+        os.symlink("t.lanes", link)
+        enter = lanes.replacing.Held.__enter__
+
+        def switched(held: Any) -> Any:
+            os.unlink(link)
+            os.symlink("other.lanes", link)
+            return enter(held)
+
+        with unittest.mock.patch.object(lanes.replacing.Held, "__enter__", switched), lanes.update(link) as change:
+            change.table = change.table.import_csv("1\n", heading=False, batch="1.1")
+        self.assertEqual([Table.open(path).dump() for path in (self.path, other)], ["A\n1\n", "A\n7\n"])
 
     def test_a_block_that_raises_leaves_the_file(self) -> None:
         with self.assertRaises(ZeroDivisionError), lanes.update(self.path) as change:

@@ -1,6 +1,7 @@
 /* The shim for Arrow, of which each allocation fails in turn: the call says so, nothing leaks, and the next one succeeds. It prints how many
  * allocations failed. */
 #define _POSIX_C_SOURCE 200809L
+#include <errno.h>
 #include <stdint.h>
 #include <stdio.h>
 #include <stdlib.h>
@@ -13,20 +14,20 @@ static int fails(void) { return left >= 0 && left-- == 0; }
 
 static void *trying_malloc(size_t bytes) { return fails() ? NULL : malloc(bytes); }
 static void *trying_calloc(size_t count, size_t bytes) { return fails() ? NULL : calloc(count, bytes); }
-static void *trying_aligned(size_t to, size_t bytes) { return fails() ? NULL : aligned_alloc(to, bytes); }
+static int trying_aligned(void **at, size_t to, size_t bytes) { return fails() ? ENOMEM : posix_memalign(at, to, bytes); }
 static char *trying_strdup(const char *text) { return fails() ? NULL : strdup(text); }
 static char *trying_strndup(const char *text, size_t most) { return fails() ? NULL : strndup(text, most); }
 
 #define malloc trying_malloc
 #define calloc trying_calloc
-#define aligned_alloc trying_aligned
+#define posix_memalign trying_aligned
 #define strdup trying_strdup
 #define strndup trying_strndup
 #include "lanes_arrow.c"
 
 #define ROWS 70000
 
-static const char *const SCHEMA = "T A TINYINT B SMALLINT C INTEGER D BIGINT";
+#define SCHEMA "T A TINYINT B SMALLINT C INTEGER D BIGINT"
 
 static void wrong(const char *what) {
     printf("%s\n", what);
@@ -86,8 +87,21 @@ static int taken(long allocations) {
     return is_whole;
 }
 
+/* A schema of fewer columns than the block has, or with a word more, is none. */
+static void try_schemas(void) {
+    static const char *const none[] = {"", "T", "T A TINYINT", SCHEMA " E", SCHEMA " E TINYINT"};
+    for (size_t i = 0; i < sizeof none / sizeof *none; i++) {
+        struct ArrowArrayStream stream;
+        left = 1000;
+        lanes_arrow_block *block = filled();
+        if (!block || lanes_arrow_stream(block, none[i], strlen(none[i]), &stream) != EINVAL) wrong(none[i]);
+        lanes_arrow_free(block);
+    }
+}
+
 int main(void) {
     long failed = 0;
+    try_schemas();
     while (!taken(failed)) failed++;
     printf("%ld\n", failed);
     return failed > 20 ? 0 : 1;

@@ -149,6 +149,8 @@ def rows_that_do_not_fit_are_refused():
         ({"A": good, "B": ["1", "2", "3"]}, TypeError, "whole numbers"),
         ({"A": good, "B": [True, False, None]}, TypeError, "whole numbers"),
         ({"A": good, "B": [True, False, True]}, TypeError, "whole numbers"),
+        ({"A": good, "B": [1, None, float("nan")]}, TypeError, "whole numbers and None are wanted, and nan is none"),
+        ({"A": good, "B": np.array([1, None, np.float64("nan")], object)}, TypeError, "whole numbers and None are wanted, and nan is none"),
         ({"A": good, "B": [1, 1 << 64, None]}, ValueError, "outside every type"),
         ({"A": good, "B": np.zeros((3, 1), int)}, ValueError, "column B: a list of numbers"),
         ({"A": good, "B": [[1], [2, 3], [4]]}, ValueError, "column B: a list of numbers"),
@@ -184,6 +186,8 @@ def rows_that_do_not_fit_are_refused():
         assert refusal.name == "NumbersSpent"
     else:
         raise AssertionError("names went past the end")
+    last = table.import_columns({"A": good, "B": good}, batch=(1, (1 << 32) - 1))
+    assert last == table.import_csv("1,1\n2,2\n3,3\n", heading=False, batch=(1, (1 << 32) - 1)), "the greatest name serves for one batch"
 
 
 def rows_go_in_from_arrays_of_every_kind():
@@ -261,12 +265,16 @@ def answers_become_frames():
     assert [str(kind) for kind in frame.dtypes] == ["Int64", "Int64", "object", "Int64", "Float64"]
     assert frame["S"].tolist() == [-big, 2 * big, None] and frame["M"].tolist() == [-big, big, pd.NA] and frame["A"][2] == 2
     assert frame["A"][0] is pd.NA and frame["MEAN"].tolist() == [pd.NA, 1.0, 2.0]
+    for sum_, rest in (big, "0"), (big + 1, "1"), (-big - 1, "-1"), (-big - 2, "-2"), (-2 * big - 2, f"-{big}\n-2"):
+        rows = f"{big if sum_ > 0 else -big}\n{rest}\n"
+        frame = Table.create("T", {"B": "BIGINT"}).import_csv(rows, heading=False).query("SELECT SUM(B) AS S FROM T").to_pandas()
+        assert frame["S"].tolist() == [sum_] and str(frame["S"].dtype) == ("Int64" if -big - 1 <= sum_ <= big else "object"), (sum_, frame)
     nothing = table.query("SELECT A,SUM(B) FROM T WHERE A > 9 GROUP BY A").to_pandas()
     assert (list(nothing.columns), len(nothing)) == (["A", "SUM(B)"], 0)
     for where, count in ("A IS NULL", 1), ("A > 9", 0), ("A = 1", 1):
         for select in "AVG(A)", "avg ( distinct A ) AS M", "\nAvg\t(A) COUNTED":
             sql = f"select\tA , {select},SUM(A)\nFrom T WHERE {where} GROUP BY A HAVING AVG(A) IS NULL OR AVG(A) > 0"
-            for answer in table.query(sql), lanes.finish(table.part(sql)), lanes.split(sql, table).finish(table.part(sql)):
+            for answer in table.query(sql), lanes.finish(table.partial(sql)), lanes.split(sql, table).finish(table.partial(sql)):
                 frame = answer.to_pandas()
                 assert len(frame) == count and [str(kind) for kind in frame.dtypes] == ["Int64", "Float64", "Int64"], (sql, frame.dtypes)
     html = table.query("SELECT A,SUM(B) FROM T GROUP BY A")._repr_html_()
@@ -345,8 +353,8 @@ class Given:
     """A stream of Arrow by hand: columns of a name, a format and flags, and arrays of a length and an offset, of a bitmap of their own and, for
     each column, of an offset, values and a bitmap. It counts what is not released."""
 
-    def __init__(self, columns, arrays, fails_at=None, whole=b"+s"):
-        self.columns, self.arrays, self.fails_at, self.whole = columns, list(arrays), fails_at, whole
+    def __init__(self, columns, arrays, fails_at=None, whole=b"+s", coded=()):
+        self.columns, self.arrays, self.fails_at, self.whole, self.coded = columns, list(arrays), fails_at, whole, coded
         self.kept, self.held = [], 0
 
     def __arrow_c_stream__(self, requested_schema=None):
@@ -382,7 +390,12 @@ class Given:
         return ctypes.cast(pointers, ctypes.POINTER(ctypes.POINTER(kind)))
 
     def get_schema(self, _, out):
-        children = [self.fill(Schema(), {"format": kind, "name": name.encode(), "flags": flags}) for name, kind, flags in self.columns]
+        words = Schema(format=b"u", name=b"words")
+        self.kept.append(words)
+        children = [
+            self.fill(Schema(), {"format": kind, "name": name.encode(), "flags": flags, "dictionary": ctypes.addressof(words) if name in self.coded else None})
+            for name, kind, flags in self.columns
+        ]
         self.held -= len(children)  # they go with their parent
         self.fill(out.contents, {"format": self.whole, "name": b"", "n_children": len(children), "children": self.many(Schema, children)})
         return 0
@@ -437,6 +450,7 @@ def streams_go_in():
         ([("A", b"tdD", 2)], [one], TypeError, "column A: int8, int16, int32 or int64 is wanted, and this is date or time", {}),
         ([("A", b"i", 2), ("A", b"i", 2)], [one], ValueError, "data: the column 'A' is there twice", {}),
         ([("A", b"i", 2)], [one], ValueError, "columns: the columns A, B are wanted", {}),
+        (good, [(1, 0, None, [(0, bytes(4), None), (0, bytes(8), None)])], TypeError, "column B: int8, int16, int32 or int64 is wanted, and this is a dictionary", {"coded": "B"}),
         (good, [(2, 0, bytes([0b01]), [(0, bytes(8), None), (0, bytes(16), None)])], ValueError, "data: a row is null as a whole", {}),
         (good, [one], OSError, "data: the stream gives 1 columns", {}),
         (good, [one], OSError, "[Errno 5] data: the stream fails: the cable is cut", {"fails_at": 1}),

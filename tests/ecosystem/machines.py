@@ -1,5 +1,5 @@
-"""The lines for Dask of docs/MANY-MACHINES.md, on a cluster of four processes, each in a folder of its own. One of them is killed while it
-is asked, and then stopped for good."""
+"""The lines for Dask of docs/MANY-MACHINES.md, on a cluster of four processes, each in a folder of its own. Each machine is killed while it
+is asked, a folder is damaged, and machines are stopped for good. It is measured that all is over within twice the timeout."""
 
 import contextlib
 import io
@@ -74,36 +74,89 @@ def killed_when_asked(cluster, room, machine):
 
 
 def printed(cluster, text, seconds=60):
-    """What the page's lines print on this cluster."""
-    out = io.StringIO()
-    with contextlib.redirect_stdout(out):
-        exec(text.replace("tcp://HOST:8786", cluster.scheduler_address).replace(PAGE_WAITS, f"timeout={seconds}"), {"__name__": "__main__"})
+    """What the page's lines print on this cluster. They may take twice the timeout, and a second to begin and to end."""
+    out, begun = io.StringIO(), time.monotonic()
+    try:
+        with contextlib.redirect_stdout(out):
+            exec(text.replace("tcp://HOST:8786", cluster.scheduler_address).replace(PAGE_WAITS, f"timeout={seconds}"), {"__name__": "__main__"})
+    finally:
+        took = time.monotonic() - begun
+        assert took < 2 * seconds + 1, f"it took {took:.1f} s with a timeout of {seconds} s"
     return out.getvalue()
 
 
+def refused(cluster, text, seconds=SECONDS):
+    """What the page's lines are refused with."""
+    try:
+        return f"nothing is refused: {printed(cluster, text, seconds)}"
+    except SystemExit as ended:
+        return ended.code
+
+
 def the_page_asks_four_machines(room, text, wanted):
-    """The page prints what it shows: with all machines, with one that is killed while it is asked, and with one that does not answer."""
+    """The page prints what it shows: with all machines, and with one that is killed while it is asked, or that does not answer and has a
+    spare. A machine without a spare that does not answer is named."""
     room = pathlib.Path(room)
     shards(room)
     os.chdir(room)
-    assert "tcp://HOST:8786" in text and text.count(PAGE_WAITS) == 2 and ", pure=False" in text, text
+    assert "tcp://HOST:8786" in text and text.count(PAGE_WAITS) == 1 and ", pure=False" in text, text
     with cluster_of(room) as cluster:
         assert printed(cluster, text) == wanted
-        killing = killed_when_asked(cluster, room, "one")
-        assert printed(cluster, text) == wanted
-        killing.join()
-        assert (room / "one" / "asked").exists(), "nobody was killed"
+        for machine in MONTHS:
+            a_machine_is_killed_when_it_is_asked(cluster, room, text, wanted, machine)
         if not_apart := refused_without_pure(cluster, text):
             raise AssertionError(not_apart)
-        process = process_of(cluster, "one")
-        os.kill(process, signal.SIGSTOP)
-        try:
+        a_damaged_folder_is_told(cluster, room, text, wanted)
+        with stopped(cluster, "one"):
             begun = time.monotonic()
             assert printed(cluster, text, SECONDS) == wanted
             assert time.monotonic() - begun >= SECONDS, "the machine was not waited for"
             missing_is_told(cluster, room, text)
-        finally:
-            os.kill(process, signal.SIGKILL)
+            with stopped(cluster, "spare"):
+                assert refused(cluster, text) == "one: no answer"
+            with stopped(cluster, "two"), stopped(cluster, "three"):
+                assert refused(cluster, text) == "two: no answer\nthree: no answer"
+
+
+def a_machine_is_killed_when_it_is_asked(cluster, room, text, wanted, machine):
+    """Dask starts it again, and the page's lines ask it again, long before the timeout. Nobody else is asked: two of the machines have no spare."""
+    killing, begun = killed_when_asked(cluster, room, machine), time.monotonic()
+    assert printed(cluster, text) == wanted, machine
+    killing.join()
+    assert (room / machine / "asked").exists(), f"{machine} was not killed"
+    assert time.monotonic() - begun < 30, f"{machine} was not asked again at once"
+
+
+def a_damaged_folder_is_told(cluster, room, text, wanted):
+    """If a machine can't answer, its spare is asked at once. Without one the machine is named, with the refusal."""
+    with damaged(room / "one" / "visits"):
+        assert printed(cluster, text) == wanted
+    with damaged(room / "two" / "visits"):
+        said = refused(cluster, text, 60)
+    assert said.startswith("two: ") and "its bytes are not those of its name" in said, said
+
+
+@contextlib.contextmanager
+def damaged(folder):
+    """A folder of which a part has one byte more."""
+    part = min(folder.glob("*.lanes"))
+    whole = part.read_bytes()
+    part.write_bytes(whole + b"x")
+    try:
+        yield
+    finally:
+        part.write_bytes(whole)
+
+
+@contextlib.contextmanager
+def stopped(cluster, machine):
+    """A machine that is there and does not answer."""
+    process = process_of(cluster, machine)
+    os.kill(process, signal.SIGSTOP)
+    try:
+        yield
+    finally:
+        os.kill(process, signal.SIGCONT)
 
 
 def missing_is_told(cluster, room, text):

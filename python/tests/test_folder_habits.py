@@ -1,0 +1,161 @@
+"""Folders as a user meets them: what is no part, what is left, what is told, and where a new folder is made."""
+
+from __future__ import annotations
+
+import os
+import pathlib
+import unittest
+import unittest.mock
+import warnings
+
+from folders import InFolder, fresh
+from lanes import Folder, Refused, calls, part_folder
+
+
+class Names(InFolder):
+    def test_a_link_to_a_folder_is_no_part(self) -> None:
+        """Nor is one when parts are chosen for a pack."""
+        self.folder.import_csv("1,1\n", heading=False, batch="1.1")
+        before = self.folder.parts()
+        for digit in "0", "f":
+            os.symlink(self.room, os.path.join(self.path, digit * 32 + ".lanes"))
+        self.assertEqual((self.folder.parts(), len(self.folder.read()), len(self.folder._sized())), (before, 1, 2))
+        self.assertEqual(self.folder.import_csv("2,2\n", heading=False), 1)
+        self.assertEqual(self.folder.pack(everything=True)[0], 1)
+        self.assertEqual((len(self.folder), len(os.listdir(self.path))), (2, 3))
+
+    def test_a_pack_chooses_no_part_that_is_no_file(self) -> None:
+        self.folder.import_csv("1,1\n", heading=False, batch="1.1")
+        path = os.path.join(self.path, "0" * 32 + ".lanes")
+        listed = part_folder.listed(self.path)
+        for make in os.mkfifo, os.mkdir:
+            make(path)
+            with unittest.mock.patch.object(part_folder, "listed", lambda _: [os.path.basename(path), *listed]):
+                self.assertEqual([name for _, name in self.folder._sized()], sorted(listed, key=lambda name: os.path.getsize(os.path.join(self.path, name))))
+            (os.unlink if make is os.mkfifo else os.rmdir)(path)
+
+    def test_a_folder_is_not_made_over_a_link_that_leads_nowhere(self) -> None:
+        path = os.path.join(self.room, "link")
+        os.symlink("/nowhere", path)
+        with self.assertRaises(FileExistsError) as caught:
+            Folder.create(path, "T", {"A": "INTEGER"})
+        self.assertEqual(caught.exception.filename, path)
+        self.assertEqual(sorted(os.listdir(self.room)), ["link", "site"])
+
+    def test_a_new_folder_is_made_next_to_its_place(self) -> None:
+        """As it is renamed, it must be in the same file system."""
+        rename, renamed = os.rename, []
+
+        def noted(first: str, second: str) -> None:
+            renamed.append((os.path.dirname(os.path.abspath(first)), second))
+            rename(first, second)
+
+        above, before = os.path.join(self.room, "above"), os.getcwd()
+        os.mkdir(above)
+        os.chdir("/")
+        try:
+            with unittest.mock.patch.object(os, "rename", noted):
+                Folder.of(os.path.join(above, "new"), self.empty)
+        finally:
+            os.chdir(before)
+        self.assertEqual(renamed, [(above, os.path.join(above, "new"))])
+        self.assertEqual((os.listdir(above), [name for name in os.listdir("/") if "lanes-new" in name]), (["new"], []))
+
+    def test_folders_of_two_disks_are_not_equal(self) -> None:
+        other = Folder(self.path)
+        self.assertEqual(other, self.folder)
+        device, number = self.folder._identity
+        for identity in (device + 1, number), (device, number + 1):
+            with unittest.mock.patch.object(other, "_identity", identity):
+                self.assertNotEqual(other, self.folder)
+
+
+class Leavings(InFolder):
+    def test_a_load_that_is_broken_off_leaves_nothing(self) -> None:
+        before = os.listdir(self.path)
+        for call in "write", "fsync", "link":
+            with self.subTest(call), unittest.mock.patch.object(os, call, side_effect=KeyboardInterrupt), self.assertRaises(KeyboardInterrupt):
+                self.folder.import_csv("1,1\n", heading=False, batch="1.1")
+            self.assertEqual(os.listdir(self.path), before)
+
+    def test_a_sweep_takes_only_temporaries(self) -> None:
+        kept = [".part-0123456789abcdef.notes", ".part-0123456789abcde", ".part-0123456789abcdeF", "x.part-0123456789abcdef", ".part-0123456789abcdef\n", "part-0123456789abcdef"]
+        for name in (*kept, ".part-0123456789abcdef"):
+            pathlib.Path(self.path, name).write_bytes(b"mine")
+        self.folder.pack()
+        self.assertEqual(sorted(name for name in os.listdir(self.path) if not name.endswith(".lanes")), sorted(kept))
+
+    def test_calls_leave_no_file_open(self) -> None:
+        acts = [
+            lambda: self.folder.import_csv("1,1\n", heading=False, batch="1.1"),
+            lambda: self.folder.apply(self.empty.import_csv("1,1\n", heading=False, batch="1.1").to_bytes()),
+            lambda: self.folder.delete("A = 9"),
+            lambda: self.folder.delete_rows("1.1", 0),
+            self.folder.forget,
+            lambda: self.folder.pack(everything=True),
+            lambda: len(self.folder),
+        ]
+        for act in acts:
+            act()
+        before = len(os.listdir("/proc/self/fd"))
+        for act in acts * 5:
+            act()
+        self.assertEqual(len(os.listdir("/proc/self/fd")), before)
+
+
+class Told(InFolder):
+    def test_a_pack_of_two_rounds_counts_the_parts_of_both(self) -> None:
+        for number in range(1, 7):
+            self.folder.import_csv(f"{number},1\n" * 40 ** (number // 3), heading=False, batch=(1, number))
+        before = len(self.folder.parts())
+        rounds = iter([3, 2, 0])
+        with unittest.mock.patch.object(calls, "packed_prefix", lambda sizes: next(rounds)):
+            parts, removed = self.folder.pack()
+        self.assertEqual((before, parts), (7, 7 + 2 - removed))
+        self.assertEqual(removed, 5)
+
+    def test_a_conflict_of_two_parts_has_the_place_of_its_batch(self) -> None:
+        for row in 1, 2:
+            part_folder.put(self.path, self.empty.import_csv(f"{row},{row}\n", heading=False, batch="1.9").to_bytes())
+        for act in self.folder.read, lambda: self.folder.import_csv("3,3\n", heading=False, batch="2.2"):
+            with self.assertRaises(Refused) as caught:
+                act()
+            self.assertEqual((caught.exception.name, caught.exception.place), ("Conflict", (1, 9)))
+            self.assertIn("1.9", str(caught.exception))
+
+    def test_of_three_parts_the_one_that_can_not_be_synced_is_told(self) -> None:
+        self.folder.import_csv("1,1\n", heading=False, batch="1.1")
+        self.folder.delete_rows("9.9", 1)
+        fsync, parts = os.fsync, self.folder.parts()
+        for part in parts:
+
+            def failing(opened: int) -> None:
+                if os.readlink(f"/proc/self/fd/{opened}").endswith(part):
+                    raise OSError(5, "a fault")
+                fsync(opened)
+
+            with fresh(), unittest.mock.patch.object(os, "fsync", failing), warnings.catch_warnings(record=True) as warned:
+                warnings.simplefilter("always")
+                self.assertEqual(self.folder.delete("A = 9"), 0)
+            self.assertEqual([os.path.basename(str(warning.message).split(": ")[0]) for warning in warned], [part])
+
+    def test_a_part_that_can_not_be_read_after_one_that_can_not_be_synced_is_an_error(self) -> None:
+        self.folder.import_csv("1,1\n", heading=False, batch="1.1")
+        first, second = self.folder.parts()
+        syncs = [OSError(5, "a fault")]
+
+        def spoiled(opened: int) -> None:
+            if syncs:
+                os.unlink(os.path.join(self.path, second))
+                os.symlink("/nowhere", os.path.join(self.path, second))
+                raise syncs.pop()
+
+        with fresh(), unittest.mock.patch.object(os, "fsync", spoiled), warnings.catch_warnings():
+            warnings.simplefilter("ignore")
+            with self.assertRaises(FileNotFoundError) as caught:
+                self.folder.delete("A = 9")
+        self.assertEqual(caught.exception.filename, os.path.join(self.path, second))
+
+
+if __name__ == "__main__":
+    unittest.main()
