@@ -147,6 +147,29 @@ def changes_of_sources(trial):
     ran_only(trial, trial.run(), source="second source", note=other_sources(trial))
 
 
+def source_of_another_time(trial):
+    """A source that is written over, and has an old time then, as files have that are unpacked or checked out by some tools, is of other sources."""
+    built(trial, trial.run("--build"))
+    source = os.path.join(trial.top, "crates/left/src/lib.rt")
+    for text in ("other source", "third source"):
+        ran_only(trial, trial.run(), note="" if text == "other source" else other_sources(trial))
+        trial.write("crates/left/src/lib.rt", text)
+        os.utime(source, (1, 1))
+        ran_only(trial, trial.run(), note=other_sources(trial))
+
+
+def source_that_is_saved_meanwhile(trial):
+    """A source that is saved while the sources are summed: the next call sees that."""
+    built(trial, trial.run("--build"))
+    time.sleep(0.02)
+    os.utime(os.path.join(trial.top, "crates/ground/src/lib.rt"))
+    # The files are listed in order, then each is read: it is saved once it was read.
+    trial.command("sha256sum", f'#!/bin/sh\n{shutil.which("sha256sum")} "$@"\nif [ $# -gt 0 ]; then sleep 0.1; echo saved > "{trial.top}/crates/left/src/lib.rt"; fi\n')
+    trial.run()
+    os.remove(os.path.join(trial.commands, "sha256sum"))
+    ran_only(trial, trial.run(), note=other_sources(trial))
+
+
 def other_program(trial):
     built(trial, trial.run("--build"))
     # As a program of other sources, or for another processor, that the toolchain has built there.
@@ -326,6 +349,16 @@ def released_program(trial):
     agree("status", trial.run(has_rt=False).status, STATUS)
 
 
+def flags_of_processors(trial):
+    """Without one of its flags a processor has the program of the level below."""
+    trial.release()
+    for flag in V3.removeprefix(V2).split():
+        trial.machine(instructions=" ".join(one for one in V3.split() if one != flag))
+        ran_released(trial, trial.run(), "x86-64-v2")
+    trial.machine(instructions=V3)
+    ran_released(trial, trial.run(), "x86-64-v3")
+
+
 def release_and_sources(trial):
     trial.machine(instructions=V3)
     trial.release(sources="another sum\n")
@@ -411,6 +444,8 @@ CASES = [
     ("nothing is built unasked", HOUSE, unasked),
     ("what is built is not built again", HOUSE, second_run),
     ("after a change of a source the program is said to be of other ones", HOUSE, changes_of_sources),
+    ("so it is after one whose source has an old time", HOUSE, source_of_another_time),
+    ("so it is after one that is saved while the sources are summed", HOUSE, source_that_is_saved_meanwhile),
     ("a program that another command builds beside it does not matter", HOUSE, other_program),
     ("nor does a change of anything else", HOUSE, other_changes),
     ("a crate that is not proved is named", HOUSE, crate_that_fails),
@@ -429,6 +464,7 @@ CASES = [
     ("there are never more at once than the memory has 2 GiB for", FOUR, at_once(3, memory=7)),
     ("with little memory there is one", FOUR, at_once(1, memory=1.5)),
     ("the released program of these sources is run at once, without the toolchain", HOUSE, released_program),
+    ("a processor without one flag of a level has the released program of the level below", HOUSE, flags_of_processors),
     ("a release of other sources is run with a word of that, and the program that is of these sources comes first", HOUSE, release_and_sources),
     ("a release that is not what its sums say is not run", HOUSE, damaged_release),
     ("a processor that no release is for is named", HOUSE, processor_without_release),

@@ -163,7 +163,7 @@ FAULTS = (
     (b"1,2\n1, 5\n", ["--no-header"], "BadCsv 2 2", 'visits.csv, line 2, column B: " 5" is not a whole number: a field has no spaces'),
     (b"1,2\nnull,5\n", ["--no-header"], "BadCsv 2 1", 'visits.csv, line 2, column A: "null" is not a whole number; if it is a null, say so by --null'),
     (b'1,2\n"",5\n', ["--no-header"], "BadCsv 2 1", 'visits.csv, line 2, column A: "" is not a whole number: a null is an empty field without quotes, or NULL'),
-    (b"A,B\n1,2\n", ["--no-header"], "BadCsv 1 1", 'visits.csv, line 1, column A: "A" is not a whole number: if the first line has the names of columns, leave --no-header out'),
+    (b"A,B\n1,2\n", ["--no-header"], "BadCsv 1 1", 'visits.csv, line 1, column A: this line has the names of columns: leave --no-header out'),
     (b"1,2\n", [], "BadCsv 1 1", 'visits.csv, line 1, field 1: "1" is not a column of the table, which has A, B: if the first line is a row, say --no-header'),
     (b"1,2\ncaf\xc3\xa9,5\n", ["--no-header"], "BadCsv 2 1", 'visits.csv, line 2, column A: "caf\u00e9" is not a whole number'),
     (b"1,2\n" + b"x" * 39 + b"\xc3\xa9,5\n", ["--no-header"], "BadCsv 2 1", 'visits.csv, line 2, column A: "' + "x" * 39 + '" is not a whole number'),
@@ -175,7 +175,7 @@ FAULTS = (
     (b"\xff\xfeA\0,\0B\0\n\0", [], "BadCsv 1 1", "visits.csv, line 1, field 1: this is UTF-16: save it as UTF-8"),
     (b"A\0,\0B\0\n\0", [], "BadCsv 1 1", "visits.csv, line 1, field 1: this is UTF-16, or no text: save it as UTF-8"),
     (b"\xfe\xff\0001\0,\0002", ["--no-header"], "BadCsv 1 1", "visits.csv, line 1, column A: this is UTF-16: save it as UTF-8"),
-    (b"\x1f\x8b\x08\0,\n", [], "BadCsv 1 1", "visits.csv, line 1, field 1: this is packed by gzip: unpack it, as by gzip -dc"),
+    (b"\x1f\x8b\x08\0,\n", [], "BadCsv 1 1", "visits.csv, line 1, field 1: this is packed by gzip: unpack it with gzip -dc"),
     (b'[{"A":1,"B":2}]\n', [], "BadCsv 1 1", "visits.csv, line 1, field 1: this is JSON: write its numbers as CSV"),
     (b'{"A":1,"B":2}\n', ["--no-header"], "BadCsv 1 1", "visits.csv, line 1, column A: this is JSON: write its numbers as CSV"),
     (b"<!DOCTYPE html>\n", [], "BadCsv 1 0", "visits.csv, line 1: this is HTML or XML: did a download fail?"),
@@ -187,8 +187,8 @@ FAULTS = (
 
 # What is no file of this program, and what is said of it.
 OTHER_FILES = (
-    (b"A,B\n1,2\n", "this is a text and no file of lanes: lanes import reads comma-separated values, and lanes run a script"),
-    (b"\x1f\x8b\x08\0", "this is packed by gzip: unpack it, as by gzip -dc"),
+    (b"A,B\n1,2\n", "this is a text file, not a lanes file: import CSV with lanes import, run a script with lanes run"),
+    (b"\x1f\x8b\x08\0", "this is packed by gzip: unpack it with gzip -dc"),
     (b"SQLite format 3\0", "this is a database of SQLite: write its rows by sqlite3 -csv"),
     (b"FLPT\1\0\0\0", "this is a partial answer: lanes combine, lanes finish and lanes inspect read it"),
     (b"\1\2\3\4", "the first four bytes are not those of this format"),
@@ -225,11 +225,13 @@ WHOLE = (
     (b"1,2", ["--no-header"], 1),
     (b"\n\n1,2", ["--no-header"], 3),
     (b"\xef\xbb\xbfA,B\n1,2", [], 2),
+    (b"\xef\xbb\xbf", ["--no-header"], None),
+    (b"\xef\xbb", ["--no-header"], 1),
 )
 
 
 def lines_that_have_to_be_whole(room):
-    sentence = "the last line has no line end: did the command before it fail?"
+    sentence = "the last line has no line end: it may be cut off"
     for into in ("t", "d"):
         room.ok("create", "d/" if into == "d" else "t", "T", "A", "SMALLINT", "B", "BIGINT")
         for at, (text, options, line) in enumerate(WHOLE):
@@ -241,13 +243,34 @@ def lines_that_have_to_be_whole(room):
                 room.ok(*words, "-", given=text)
                 continue
             room.refused(*words, "visits.csv", line=f"refused BadCsv {line} 0", sentence=f"visits.csv, line {line}: {sentence}")
-            room.refused(*words, "-", given=text, line=f"refused BadCsv {line} 0", sentence=f"standard input, line {line}: {sentence}")
+            room.refused(*words, "-", given=text, line=f"refused BadCsv {line} 0", sentence=f"lanes import {into}: standard input, line {line}: {sentence}")
+            assert room.ok("dump", "--names", into) == before
+            if text == b"\xef\xbb":
+                continue
             room.put("whole.csv", text + b"\n")
             room.refused(*words, "whole.csv", "visits.csv", line=f"refused BadCsv {line} 0", sentence=f"visits.csv, line {line}: {sentence}")
             assert room.ok("dump", "--names", into) == before
             room.ok("import", *options, into, "visits.csv")
     room.put("visits.csv", b"A,B\n1,2\n3")
-    room.refused("import", "--whole-lines", "t", "visits.csv", line="refused BadCsv 3 0", sentence="visits.csv, line 3: the line has 1 field, and the table has 2 columns")
+    for last in (b"3", b"3,", b"3,-", b"x,4", b"3,4,5", b"A,B"):
+        room.put("visits.csv", b"A,B\n1,2\n" + last)
+        room.refused("import", "--whole-lines", "t", "visits.csv", line="refused BadCsv 3 0", sentence=f"visits.csv, line 3: {sentence}")
+    room.put("visits.csv", b"A,B\nx,2\n3")
+    room.refused("import", "--whole-lines", "t", "visits.csv", line="refused BadCsv 2 1", sentence='visits.csv, line 2, column A: "x" is not a whole number')
+    room.put("visits.csv", b"A,B\n" + b"7" * 1_048_577)
+    room.refused("import", "--whole-lines", "t", "visits.csv", line="refused LineTooLong", sentence="visits.csv, line 2: the line has more than 1,048,576 bytes")
+
+
+def a_second_heading_says_so(room):
+    room.ok("create", "t", "T", "A", "SMALLINT", "B", "BIGINT")
+    again = "this line has the names of columns again: leave it out, or name each CSV by itself"
+    for text, place in ((b"A,B\n1,2\nA,B\n3,4\n", "3 1"), (b'A,B\n1,2\nb,"A"\n', "3 1"), (b"B,A\n1,2\n1,2\nB,A\n", "4 1")):
+        line = place.split()[0]
+        column = text[:1].decode()
+        room.put("visits.csv", text)
+        room.refused("import", "t", "visits.csv", line=f"refused BadCsv {place}", sentence=f"visits.csv, line {line}, column {column}: {again}")
+    room.put("visits.csv", b"A,B\n1,2\nA,x\n")
+    room.refused("import", "t", "visits.csv", line="refused BadCsv 3 1", sentence='visits.csv, line 3, column A: "A" is not a whole number')
 
 
 def batches_have_65536_rows_and_the_last_one_what_is_left(room):
@@ -294,6 +317,7 @@ TESTS = [
     what_is_dumped_loads_into_sqlite_with_the_same_sums,
     what_is_at_fault_is_said_with_its_place,
     lines_that_have_to_be_whole,
+    a_second_heading_says_so,
     batches_have_65536_rows_and_the_last_one_what_is_left,
     names_are_drawn_at_random,
 ]

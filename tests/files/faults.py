@@ -60,15 +60,15 @@ def a_read_that_fails_in_the_middle_of_an_input_is_never_its_end(room):
     room.put("p", room.ok("partial", "t", "SELECT COUNT(*) FROM T"))
     for words, name, subject, given in (
         (("import", "--no-header", "t", "rows"), "rows", "rows", None),
-        (("import", "--no-header", "t", "-"), "rows", "standard input", "rows"),
-        (("import", "--no-header", "--batch", "3.1", "t", "-"), "rows", "standard input", "rows"),
+        (("import", "--no-header", "t", "-"), "rows", "lanes import t: standard input", "rows"),
+        (("import", "--no-header", "--batch", "3.1", "t", "-"), "rows", "lanes import t: standard input", "rows"),
         (("apply", "t", "f"), "f", "f", None),
-        (("apply", "t", "-"), "f", "standard input", "f"),
+        (("apply", "t", "-"), "f", "lanes apply t: standard input", "f"),
         (("offer", "o", "s"), "s", "s", None),
-        (("offer", "o", "-"), "s", "standard input", "s"),
+        (("offer", "o", "-"), "s", "lanes offer o: standard input", "s"),
         (("offer", "o", "s"), "o", "o", None),
         (("finish", "--expect", "s", "p"), "s", "s", None),
-        (("finish", "--expect", "-", "p"), "s", "standard input", "s"),
+        (("finish", "--expect", "-", "p"), "s", "lanes finish p: standard input", "s"),
         (("inspect", "o"), "o", "o", None),
         (("inspect", "s"), "s", "s", None),
         (("merge", "t", "t", "o"), "o", "o", None),
@@ -78,10 +78,10 @@ def a_read_that_fails_in_the_middle_of_an_input_is_never_its_end(room):
         (("summary", "o"), "o", "o", None),
         (("spread", "o", "x", "y"), "o", "o", None),
         (("partial", "o", "SELECT COUNT(*) FROM T"), "o", "o", None),
-        (("partial", "-", "SELECT COUNT(*) FROM T"), "o", "standard input", "o"),
+        (("partial", "-", "SELECT COUNT(*) FROM T"), "o", "lanes partial: standard input", "o"),
         (("combine", "p"), "p", "p", None),
         (("finish", "p"), "p", "p", None),
-        (("finish", "-"), "p", "standard input", "p"),
+        (("finish", "-"), "p", "lanes finish: standard input", "p"),
     ):
         each_failed_read_is_told(room, words, name, subject, given)
 

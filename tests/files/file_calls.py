@@ -3,7 +3,7 @@ command makes of it, whole; what is answered `ok` is there; and the same command
 
 import os
 
-from injecting import NAMED, Tries, each_call, faults_seen, wrong_program
+from injecting import NAMED, Ended, Tries, each_call, each_kind_was_tried, faults_seen, wrong_program
 from room import COLUMNS
 
 LOCK = ".t.lanes-lock"
@@ -93,13 +93,16 @@ def put_inputs(room):
 
 def each_call_of_a_command_on_a_file_fails_and_kills_and_nothing_is_lost(room):
     put_inputs(room)
+    tried = []
     for words in COMMANDS:
         command, tries = Command(room, words), Tries(words)
         for ended in each_call(room, words, command.prepare):
             tries.add(ended)
             command.judge(ended)
         tries.tell()
+        tried.append(tries)
         os.remove(room.path("t"))
+    each_kind_was_tried(tried, "mkdir,mkdirat", "getdents64", "link,linkat", "unlink,unlinkat")
 
 
 #: An import that writes the new file over the old one.
@@ -119,7 +122,49 @@ def a_program_that_writes_a_file_in_place_is_seen(room):
     assert any("('dump', 't') ended with 1" in fault for fault in faults), f"a file that was half written is not seen: {faults}"
 
 
+def an_end_of_a_command_that_is_wrong_is_refused(room):
+    """Of an import: what it said, whether its rows are there, and what is left."""
+    put_inputs(room)
+    command = Command(room, ("import", "--no-header", "--batch", "2.1", "t", "rows"))
+
+    def is_refused(kind, is_killed, status, out, err, is_done, left=None):
+        command.prepare()
+        if is_done:
+            room.ok(*command.words)
+        if left:
+            room.put(left, b"")
+        try:
+            command.judge(Ended(kind, 1, is_killed, status, out, err))
+        except AssertionError:
+            return True
+        return False
+
+    ok, unsynced, fault = b"ok batches=1 new=1 rows=1\n", b"t: this was replaced, but its folder could not be synced\n", b"refused WriteFault\nt: no room\n"
+    for wrong in (
+        ("write", False, 0, ok, b"", False),
+        ("write", True, -9, ok, b"", False),
+        ("fsync", False, 0, ok, b"", True),
+        ("fsync", False, 0, ok, unsynced, False),
+        ("write", False, 0, b"", b"", True),
+        ("write", False, 1, b"", fault, True),
+        ("write", False, 1, b"", b"refused Conflict\n2.1\n", False),
+        ("write", False, 1, b"", b"refused WriteFault\nlanes import t: standard output: no room\n", False),
+        ("write", False, 1, b"", fault, False, LOCK),
+        ("write", True, -9, b"", b"", False, "notes"),
+    ):
+        assert is_refused(*wrong), f"{wrong} is not refused"
+    for right in (
+        ("write", True, -9, b"", b"", False),
+        ("write", True, -9, ok, b"", True, LOCK),
+        ("write", False, 1, b"", fault, False),
+        ("fsync", False, 0, ok, unsynced, True),
+        ("flock", False, 1, b"", fault, False, LOCK),
+    ):
+        assert not is_refused(*right), f"{right} is refused"
+
+
 TESTS = [
+    an_end_of_a_command_that_is_wrong_is_refused,
     each_call_of_a_command_on_a_file_fails_and_kills_and_nothing_is_lost,
     a_program_that_writes_a_file_in_place_is_seen,
 ]

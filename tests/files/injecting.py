@@ -43,7 +43,7 @@ class Ended(NamedTuple):
 
     def is_told_of_the_output(self):
         """Whether all was done, and what could not be written is the answer."""
-        return self.err.startswith(b"refused WriteFault\nstandard output: ")
+        return re.match(rb"refused WriteFault\nlanes [a-z-]+ \S+: standard output: ", self.err) is not None
 
     def is_before_the_program(self):
         """Whether the system could not load the program."""
@@ -108,6 +108,16 @@ def wrong_program(room, body):
         file.write(f'#!/bin/sh -e\nroom={folder}/files\nlanes() {{ {room.program} "$@"; }}\n{body}\nlanes "$@"\n')
     os.chmod(f"{folder}/program", 0o755)
     return Room(f"{folder}/program", f"{folder}/room")
+
+
+def each_kind_was_tried(tries, *never):
+    """Each kind of call failed in some command, but those that none of these commands makes."""
+    kinds = {kind for of_command in tries for kind, (failed, killed) in of_command.counts.items() if failed and killed}
+    assert kinds == WANTED - {*never}, f"of the calls of the system {sorted(WANTED - {*never} - kinds)} were not tried, and {sorted(kinds - WANTED)} were"
+
+
+#: The calls that are to be tried: a list of its own, so that none is left out of KINDS unseen.
+WANTED = {"fsync", "write", "link,linkat", "rename,renameat,renameat2", "unlink,unlinkat", "mkdir,mkdirat", "ftruncate", "fchmod", "openat", "flock", "getdents64"}
 
 
 class Tries:

@@ -53,7 +53,7 @@ def a_refusal_leaves_the_file_and_no_lock(room):
     room.refused("import", "--no-header", "--batch", "1.1", "t", "-", given=b"1,10\n", line="refused Conflict 1.1", sentence="t: this has batch 1.1 already, with other rows")
     room.refused("import", "--no-header", "--batch", "0.1", "t", "-", given=b"1,10\n", line="refused BadName")
     room.refused("import", "--no-header", "--batch", "1.4294967295", "t", "-", given=rows_text(65_537), line="refused NumbersSpent")
-    room.refused("apply", "t", "-", given=b"junk", line="refused BadMagic", sentence="standard input: this is a text and no file of lanes: lanes import reads comma-separated values, and lanes run a script")
+    room.refused("apply", "t", "-", given=b"junk", line="refused BadMagic", sentence="lanes apply t: standard input: this is a text file, not a lanes file: import CSV with lanes import, run a script with lanes run")
     room.refused("create", "t", "T", "A", "SMALLINT", line="refused Exists", sentence="t: there is a file of this name already")
     assert room.get("t") == held
     room.only("t")
@@ -239,6 +239,91 @@ def a_file_that_may_not_be_read_is_a_failed_read(room):
     room.refused("dump", "t", line="refused ReadFault", sentence="t: permission denied: this may not be read", **how)
 
 
+def a_file_that_may_not_be_written_is_a_failed_write(room):
+    how = as_nobody(room)
+    held = room.make()
+    room.make("more", rows=b"")
+    room.ok("import", "--no-header", "--batch", "2.1", "more", "-", given=b"3,40\n")
+    room.put("empty", b"")
+    os.mkdir(room.path("other"))
+    room.put("other/t", held)
+    for path in ("t", "more", "empty", "other/t"):
+        os.chmod(room.path(path), 0o444)
+    there = room.names()
+    denied = "permission denied: this may not be written"
+    for words in (
+        ("import", "--no-header", "--batch", "3.1", "t", "-"),
+        ("delete", "t", "A = 1"),
+        ("delete-rows", "t", "1.1", "0", "0"),
+        ("delete-rows", "--held", "t", "1.1", "0", "0"),
+        ("apply", "t", "more"),
+        ("merge", "t", "more"),
+        ("merge", "t", "t", "more"),
+    ):
+        room.refused(*words, given=b"3,40\n", line="refused WriteFault", sentence=f"t: {denied}", **how)
+        assert room.get("t") == held and room.names() == there, f"{words} left {room.names()}"
+    # The faults of the command and of its other inputs come first.
+    room.refused("import", "--no-header", "t", "-", given=b"x,1\n", line="refused BadCsv 1 1", **how)
+    room.refused("import", "--no-header", "--batch", "1.1", "t", "-", given=b"9,9\n", line="refused Conflict 1.1", **how)
+    room.refused("delete", "t", "C = 1", line="refused NoSuchColumn 0", **how)
+    room.refused("merge", "t", "more", "empty", line="refused Truncated 0", **how)
+    room.refused("merge", "t", "t", "empty", line="refused Truncated 0", **how)
+    assert room.get("t") == held and room.names() == there
+    # Reading needs no such right.
+    room.ok("check", "t", **how)
+    room.ok("merge", "out", "t", "more", **how)
+    os.chmod(room.path("t"), 0o644)
+    os.chown(room.path("t"), NOBODY, NOBODY) if os.getuid() == 0 else None
+    room.ok("delete", "t", "A = 1", prints=b"ok 1\n", **how)
+
+
+def who_reads_no_more_hears_nothing(room):
+    room.make(rows=rows_text(60_000))
+    room.put("s", room.ok("summary", "t"))
+    room.put("script", b"table 1 T A INTEGER\n" + b"append 1 (1)\n" * 60_000)
+    many = "SELECT A,COUNT(*) FROM T GROUP BY A"
+    room.put("p", room.ok("partial", "t", many))
+    for words in (["dump", "t"], ["query", "t", many, many], ["query", "--format", "json", "t", many], ["run", "script"], ["finish", "p"], ["combine", "p"], ["partial", "t", many], ["merge", "/dev/stdout", "t"]):
+        with room.start(*words) as running:
+            running.stdout.close()
+            said = running.stderr.read()
+            status = running.wait(60)
+        if words[0] != "merge":
+            assert (status, said) == (1, b""), f"{words} ended with {status} and said {said!r}"
+        else:
+            assert status == 1 and said.startswith(b"refused WriteFault\n/dev/stdout: "), f"{words} ended with {status} and said {said!r}"
+    reading, writing = os.pipe()
+    os.close(reading)
+    for words in (["--help"], ["import", "--help"], ["check", "t"], ["inspect", "t"], ["delete", "t", "A = 99"], ["summary", "t"]):
+        done = subprocess.run([room.program, *words], stdout=writing, stderr=subprocess.PIPE, cwd=room.folder, timeout=60)
+        assert (done.returncode, done.stderr) == (1, b""), f"{words} ended with {done.returncode} and said {done.stderr!r}"
+    os.close(writing)
+
+
+def a_refusal_is_one_write(room):
+    if shutil.which("strace") is None:
+        raise Lacking("strace is not installed")
+    room.make()
+    long = "./" * 2_000 + "none"
+    for words, at_most in ((["check", "none"], 100), (["query", "t", "SELECT"], 100), (["check", long], 4_096), (["import", "t", "-"], 200)):
+        subprocess.run(["strace", "-f", "-y", "-o", "trace", "-e", "trace=write", room.program, *words], input=b"", cwd=room.folder, capture_output=True, timeout=60)
+        if not os.path.exists(room.path("trace")) or not room.get("trace"):
+            raise Lacking("strace can't trace")
+        told = re.findall(r" write\(2<.*= (\d+)\n", room.get("trace").decode())
+        assert len(told) == 1 and int(told[0]) <= at_most, f"{words} wrote {told} bytes to standard error"
+
+
+def refusals_at_once_do_not_mix(room):
+    room.make()
+    reading, writing = os.pipe()
+    running = [subprocess.Popen([room.program, "check", f"none{at}"], stdin=subprocess.DEVNULL, stdout=subprocess.DEVNULL, stderr=writing, cwd=room.folder) for at in range(60)]
+    os.close(writing)
+    with os.fdopen(reading, "rb") as errors:
+        told = errors.read().decode().splitlines()
+    assert all(one.wait(60) == 1 for one in running)
+    assert set(told[::2]) == {"refused ReadFault"} and sorted(told[1::2]) == sorted(f"none{at}: no such file or folder" for at in range(60)), told[:6]
+
+
 def limited(count):
     """What makes a process one that may write files of so many bytes, and is told so by an error."""
 
@@ -273,7 +358,7 @@ def what_is_said_to_a_full_device_is_a_failed_write_and_the_file_is_replaced(roo
     room.make()
     with open("/dev/full", "wb") as full:
         status = subprocess.run([room.program, "import", "--no-header", "--batch", "2.1", "t", "-"], input=b"3,40\n", stdout=full, stderr=subprocess.PIPE, cwd=room.folder, timeout=60)
-    assert status.returncode == 1 and status.stderr.startswith(b"refused WriteFault\nstandard output: "), f"it said {status.stderr!r}"
+    assert status.returncode == 1 and status.stderr.startswith(b"refused WriteFault\nlanes import t: standard output: "), f"it said {status.stderr!r}"
     room.ok("check", "t", prints=b"ok batches=2 ranges=0\n")
     with open("/dev/full", "wb") as full:
         for words in (["dump", "t"], ["summary", "t"], ["inspect", "t"], ["offer", "t", "s"], ["query", "--format", "json", "t", "SELECT SUM(A) FROM T"]):
@@ -319,6 +404,7 @@ def the_system_calls_stand_in_their_order(room):
         r"openat\(.*\.t\.lanes-lock\", .*O_CREAT\|O_EXCL",
         r"flock\(.*lanes-lock>, LOCK_EX\|LOCK_NB\) += 0",
         r"f?chmod\(.*lanes-lock",
+        r"openat\(.*/t\", O_WRONLY(\|O_NOCTTY)?(\|O_CLOEXEC)?\)",
         r"openat\(.*t\", O_RDONLY",
         r"openat\(.*/d\", O_RDONLY",
         r"ftruncate\(.*lanes-lock>, 0\)",
@@ -420,6 +506,10 @@ TESTS = [
     a_folder_without_the_right_to_write_is_a_failed_write,
     a_folder_that_can_not_be_opened_is_a_failed_write_before_the_file_is_replaced,
     a_file_that_may_not_be_read_is_a_failed_read,
+    a_file_that_may_not_be_written_is_a_failed_write,
+    who_reads_no_more_hears_nothing,
+    a_refusal_is_one_write,
+    refusals_at_once_do_not_mix,
     a_file_that_has_no_room_leaves_the_old_one,
     a_file_without_room_for_its_last_bytes_leaves_the_old_one,
     what_is_said_to_a_full_device_is_a_failed_write_and_the_file_is_replaced,

@@ -87,6 +87,10 @@ def inspect_and_check_count_parts_and_others(room):
     room.ok("merge", "m", "d")
     of_file = room.ok("inspect", "m").split(b"\n")
     assert room.ok("inspect", "d").split(b"\n") == of_file[:1] + [b"parts 3", b"others 6"] + of_file[1:]
+    digest = name_of(room.get("m")).removesuffix(".lanes").encode()
+    assert room.ok("check", "--digest", "d") == b"ok batches=2 ranges=0 parts=3 others=6 digest=" + digest + b"\n"
+    assert room.ok("check", "--digest", "m").endswith(b" digest=" + digest + b"\n")
+    assert room.ok("inspect", "--digest", "d").split(b"\n")[:5] == of_file[:1] + [b"parts 3", b"others 6", b"digest " + digest] + of_file[1:2]
     of_file = room.ok("inspect", "--format", "json", "m")
     assert room.ok("inspect", "--format", "json", "d") == of_file.replace(b'{"table":"T",', b'{"table":"T","parts":3,"others":6,')
     room.ok("import", "--no-header", "d", "-", given=b"7,7\n")

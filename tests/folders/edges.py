@@ -259,8 +259,9 @@ def a_pipe_that_has_a_parts_name_is_refused_and_not_waited_for(room):
     ):
         room.refused(*words, given=b"7,7\n", line="refused ReadFault", sentence=f"{name}: this is neither a file nor a folder")
         assert room.names() == ["d"] and set(parts_of(room)) == {*before, os.path.basename(name)}, f"{words} left {room.names()}"
-    # A pack joins files alone.
-    room.ok("pack", "--all", "d", prints=b"ok parts=2 packed=3\n")
+    for words in (("pack", "d"), ("pack", "--all", "d")):
+        room.refused(*words, line="refused ReadFault", sentence=f"{name}: this is neither a file nor a folder")
+        assert set(parts_of(room)) == {*before, os.path.basename(name)}
 
 
 TESTS = [

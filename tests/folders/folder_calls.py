@@ -6,7 +6,7 @@ import os
 import re
 import shutil
 
-from injecting import NAMED, Tries, each_call
+from injecting import NAMED, Tries, each_call, each_kind_was_tried
 from parts import all_are_named, make_folder, parts_of
 
 COLUMNS = ("A", "SMALLINT", "B", "BIGINT")
@@ -104,12 +104,15 @@ def each_call_of_a_command_on_a_folder_fails_and_kills_and_nothing_is_lost(room)
     room.ok("create", "v", "T", *COLUMNS)
     room.ok("import", "--no-header", "--batch", "5.1", "v", "-", given=b"5,50\n")
     make_starts(room)
+    tried = []
     for words in COMMANDS:
         command, tries = Command(room, words), Tries(words)
         for ended in each_call(room, words, command.prepare):
             tries.add(ended)
             command.judge(ended)
         tries.tell()
+        tried.append(tries)
+    each_kind_was_tried(tried, "ftruncate", "fchmod")
 
 
 TESTS = [each_call_of_a_command_on_a_folder_fails_and_kills_and_nothing_is_lost]

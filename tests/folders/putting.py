@@ -221,7 +221,7 @@ def a_folder_that_can_not_be_synced_is_told_and_the_part_is_there(room):
 
 def without_hard_links_a_part_is_renamed_and_replaces_none(room):
     make_folder(room)
-    for error in ("EPERM", "EOPNOTSUPP", "ENOSYS"):
+    for error in ("EPERM", "EOPNOTSUPP", "EMLINK"):
         before = len(parts_of(room))
         trace, status, err = traced(room, "import", "--no-header", "d", "-", options=("-e", f"inject=link,linkat:error={error}"), given=b"7,7\n")
         assert status == 0, f"it said {err!r}"
@@ -233,9 +233,65 @@ def without_hard_links_a_part_is_renamed_and_replaces_none(room):
     only_parts(room)
 
 
-def a_folder_that_can_not_be_locked_is_read_and_not_packed(room):
+def a_link_that_fails_is_a_failed_write_and_changes_nothing(room):
     make_folder(room, loads=3)
-    no_lock = ("-e", "inject=flock:error=EOPNOTSUPP")
+    offered(room, "v", b"9,9\n")
+    before = parts_of(room)
+    for error, sentence in (("EIO", "this can't be written"), ("ENOSPC", "no space is left on the device"), ("EACCES", "permission denied: this may not be written"), ("ENOSYS", "this can't be written")):
+        for words in (("import", "--no-header", "d", "-"), ("import", "--no-header", "--batch", "8.8", "d", "-"), ("delete", "d", "A = 1"), ("apply", "d", "v"), ("pack", "--all", "d")):
+            trace, status, err = traced(room, *words, options=("-e", f"inject=link,linkat:error={error}"), given=b"7,7\n")
+            assert "rename" not in trace and status == 1 and err == f"refused WriteFault\nd: {sentence}\n".encode(), f"at {error} {words} said {err!r}"
+            assert sorted(os.listdir(room.path("d"))) == before, f"at {error} {words} left {os.listdir(room.path('d'))}"
+
+
+def locks_of(room, *words, given=b""):
+    """Which of all calls of flock, counted from 1, take the lock of the folder shared, that of a temporary, and that of the folder alone."""
+    trace, status, err = traced(room, *words, given=given)
+    assert status == 0, f"{words} said {err!r}"
+    calls = re.findall(r"flock\(\d+<([^>]*)>, (\w+)", trace)
+    return tuple([at for at, (name, how) in enumerate(calls, 1) if how == kind and name.endswith(end)] for kind, end in (("LOCK_SH", "/d"), ("LOCK_EX", ""), ("LOCK_EX", "/d")))
+
+
+def a_lock_that_fails_is_refused_and_changes_nothing(room):
+    make_folder(room, "start", loads=3)
+    offered(room, "v", b"9,9\n")
+
+    def begin():
+        shutil.rmtree(room.path("d"), ignore_errors=True)
+        shutil.copytree(room.path("start"), room.path("d"))
+
+    for words in (("query", "d", "SELECT COUNT(*) FROM T"), ("import", "--no-header", "d", "-"), ("import", "--no-header", "--batch", "8.8", "d", "-"), ("apply", "d", "v"), ("delete", "d", "A = 1"), ("pack", "--all", "d")):
+        begin()
+        shared, temporary, alone = locks_of(room, *words, given=b"7,7\n")
+        assert shared and bool(temporary) == (words[0] != "query") and bool(alone) == (words[0] in ("apply", "pack") or "--batch" in words), f"{words} takes {shared, temporary, alone}"
+        # Who lists reads, and who puts writes.
+        for at, refusal, sentence in [(at, "ReadFault", "this can't be read") for at in shared[:1]] + [(at, "WriteFault", "this can't be written") for at in temporary]:
+            begin()
+            before = parts_of(room)
+            _, status, err = traced(room, *words, options=("-e", f"inject=flock:error=EIO:when={at}"), given=b"7,7\n")
+            assert status == 1 and err == f"refused {refusal}\nd: {sentence}\n".encode(), f"at lock {at} {words} said {err!r}"
+            assert sorted(os.listdir(room.path("d"))) == before, f"at lock {at} {words} left {os.listdir(room.path('d'))}"
+
+
+def that_too_many_files_are_open_is_told(room):
+    make_folder(room)
+    offered(room, "v", b"9,9\n")
+    for error in ("EMFILE", "ENFILE"):
+        for name, words in (("d", ("query", "d", "SELECT COUNT(*) FROM T")), ("d", ("import", "--no-header", "d", "-")), ("v", ("query", "v", "SELECT COUNT(*) FROM T")), ("v", ("apply", "d", "v"))):
+            _, status, err = traced(room, *words, options=("-P", name, "-e", f"inject=openat:error={error}"), given=b"7,7\n")
+            err = b"".join(line for line in err.splitlines(True) if not line.startswith(b"strace: "))
+            assert status == 1 and err == f"refused ReadFault\n{name}: too many files are open: allow more by ulimit -n\n".encode(), f"at {error} {words} said {err!r}"
+
+
+def a_folder_that_can_not_be_locked_is_read_and_not_packed(room):
+    for error in ("EOPNOTSUPP", "ENOSYS", "ENOLCK"):
+        shutil.rmtree(room.path("d"), ignore_errors=True)
+        one_that_can_not_be_locked_is_read_and_not_packed(room, error)
+
+
+def one_that_can_not_be_locked_is_read_and_not_packed(room, error):
+    make_folder(room, loads=3)
+    no_lock = ("-e", f"inject=flock:error={error}")
     for words in (("query", "d", "SELECT COUNT(*) FROM T"), ("import", "--no-header", "d", "-"), ("import", "--no-header", "--batch", "8.8", "d", "-"), ("delete", "d", "A = 1")):
         _, status, err = traced(room, *words, options=no_lock, given=b"7,7\n")
         assert status == 0, f"{words} said {err!r}"
@@ -375,12 +431,19 @@ def a_folder_that_is_made_by_another_is_not_swept(room):
     room.put(f".m.lanes-new-{'2' * 16}/notes", b"of a person")
     os.symlink(kept[0], room.path(f".m.lanes-new-{'3' * 16}"))
     room.put(f".m.lanes-new-{'4' * 16}", b"a file")
-    kept += [f".m.lanes-new-{digit * 16}" for digit in "234"]
+    for digit, name in (("5", "notes"), ("6", "x (1).lanes"), ("7", "0" * 31 + ".lanes"), ("8", "sub/of a person")):
+        os.makedirs(os.path.dirname(room.path(f".m.lanes-new-{digit * 16}/{name}")))
+        room.put(f".m.lanes-new-{digit * 16}/{'0' * 32}.lanes", b"half")
+        room.put(f".m.lanes-new-{digit * 16}/.part-{'0' * 16}", b"half")
+        room.put(f".m.lanes-new-{digit * 16}/{name}", b"of a person")
+    kept += [f".m.lanes-new-{digit * 16}" for digit in "2345678"]
     held = os.open(room.path(kept[0]), os.O_RDONLY)
     fcntl.flock(held, fcntl.LOCK_EX)
     room.ok("merge", "m/", "d")
     assert sorted(os.listdir(room.path("."))) == sorted([*kept, "d", "m"]), f"there are {os.listdir(room.path('.'))}"
     assert room.get(f"{kept[0]}/{'0' * 32}.lanes") == b"half"
+    for digit in "5678":
+        assert len(os.listdir(room.path(f".m.lanes-new-{digit * 16}"))) == 3, "a folder that stays lost a part"
     shutil.rmtree(room.path("m"))
     os.close(held)
     _, status, err = traced(room, "merge", "m/", "d", options=("-e", "inject=flock:error=EOPNOTSUPP"))
@@ -574,6 +637,9 @@ TESTS = [
     a_failed_call_leaves_the_folder_as_it_was,
     a_folder_that_can_not_be_synced_is_told_and_the_part_is_there,
     without_hard_links_a_part_is_renamed_and_replaces_none,
+    a_link_that_fails_is_a_failed_write_and_changes_nothing,
+    a_lock_that_fails_is_refused_and_changes_nothing,
+    that_too_many_files_are_open_is_told,
     a_folder_that_can_not_be_locked_is_read_and_not_packed,
     a_folder_that_others_have_locked_is_busy_after_ten_seconds,
     a_folder_without_the_right_to_write_is_a_failed_write,

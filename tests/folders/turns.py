@@ -163,6 +163,17 @@ COMMANDS = (
 )
 
 
+def has_done(what, words, process, before, after):
+    """A command of a kind has made of the parts before it those after it, and what it answers is on the disk."""
+    if what == PUTS:
+        # What came is on the disk once the command has answered, and was before anything went.
+        assert process.stored and after - before <= set(process.stored), f"{words} stored {process.stored} and made {after - before}"
+    else:
+        assert before == after, f"{words} changed {before ^ after}"
+    if what == RELIES:
+        assert process.kept >= after, f"{words} did not sync {after - process.kept}"
+
+
 def each_call_of_each_command_is_in_turn(room):
     make_folder(room, loads=9)
     offered(room)
@@ -177,13 +188,7 @@ def each_call_of_each_command_is_in_turn(room):
         except OutOfTurn as fault:
             raise AssertionError(f"{words}: {fault} in\n{trace[-2000:]}") from fault
         after = set(parts_of(room))
-        if what == PUTS:
-            # What came is on the disk once the command has answered, and was before anything went.
-            assert process.stored and after - before <= set(process.stored), f"{words} stored {process.stored} and made {after - before}"
-        else:
-            assert before == after, f"{words} changed {before ^ after}"
-        if what == RELIES:
-            assert process.kept >= after, f"{words} did not sync {after - process.kept}"
+        has_done(what, words, process, before, after)
         all_are_named(room)
         only_parts(room)
 
@@ -244,6 +249,20 @@ WRONG = (
     (
         "a removal of what was not read",
         (("locks", "exclusive"), ("reads", PART_NAME, True), ("synced_file", PART_NAME, True), ("settled", True), ("removed", OTHER_NAME)),
+    ),
+    (
+        "a removal of the part that was put",
+        (
+            ("made", ".part-" + "0" * 16, True),
+            ("wrote", ".part-" + "0" * 16, True),
+            ("synced_file", ".part-" + "0" * 16, True),
+            ("locks", "exclusive"),
+            ("linked", ".part-" + "0" * 16, PART_NAME, "done"),
+            ("reads", PART_NAME, True),
+            ("synced_file", PART_NAME, True),
+            ("settled", True),
+            ("removed", PART_NAME),
+        ),
     ),
     ("a write to another file", (("made", ".part-" + "0" * 16, True), ("wrote", PART_NAME, True))),
 )

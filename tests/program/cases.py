@@ -47,6 +47,9 @@ DELETED = ALL_THREE[:-8] + len(RANGES).to_bytes(8, "little") + b"".join(origin.t
 USAGE = b"\n\nUsage: lanes <COMMAND>\n\nFor more information, try '--help'.\n"
 MERGE_FAULT = b"error: OUT is a folder: lanes apply FOLDER FILE.. adds files to it, and a name that ends in / makes a new one" + USAGE
 
+# What is said to who types queries.
+WELCOME = b"a query in a line; help says more, and quit leaves\n"
+
 # A folder d and the file in it.
 FOLDER = {"d/kept": b"old"}
 
@@ -54,7 +57,7 @@ FOLDER = {"d/kept": b"old"}
 WIDER = ONE_ROW[:29] + b"\x01" + ONE_ROW[30:34] + bytes(128) + ONE_ROW[34:]
 
 # All commands.
-COMMANDS = ["create", "import", "query", "partial", "combine", "finish", "delete", "delete-rows", "forget", "dump", "inspect", "summary", "offer", "apply", "check", "merge", "run"]
+COMMANDS = ["create", "import", "query", "partial", "combine", "finish", "delete", "delete-rows", "forget", "dump", "inspect", "summary", "offer", "apply", "check", "merge", "spread", "pack", "run"]
 
 
 # Batches of one row and of two, and which rows of them are deleted.
@@ -107,17 +110,17 @@ CASES = [
     Case("a refused line is a reply, and no fault of the program", ["run"], 0, b"refused BadLine\n", input=b"append 1 (7)\n"),
     Case("a file that isn't there is a failed read", ["run", "none.lanes"], 1, err=b"refused ReadFault\nnone.lanes: no such file or folder\n"),
     Case("a folder in place of a file is a failed read", ["run", "."], 1, err=b"refused ReadFault\n.: this is a folder\n"),
-    Case("standard input that can't be read is a failed read", ["run"], 1, err=b"refused ReadFault\nstandard input: this can't be read\n", input_from="folder"),
-    Case("replies that can't be written are a failed write", ["run"], 1, err=b"refused WriteFault\nstandard output: no space is left on the device\n", input=FIRST, output_to="full"),
+    Case("standard input that can't be read is a failed read", ["run"], 1, err=b"refused ReadFault\nlanes run: standard input: this can't be read\n", input_from="folder"),
+    Case("replies that can't be written are a failed write", ["run"], 1, err=b"refused WriteFault\nlanes run: standard output: no space is left on the device\n", input=FIRST, output_to="full"),
     Case("help that can't be written is a failed write", ["--help"], 1, err=b"refused WriteFault\n", output_to="full"),
     Case("no command is a fault of the command line", [], 2, err=[b"requires a subcommand", b"Usage: lanes <COMMAND>"]),
     Case("an unknown command is one too", ["bogus"], 2, err=[b"unrecognized subcommand 'bogus'"]),
     Case("a second file is one too", ["run", "a", "b"], 2, err=[b"unexpected argument 'b'"], files={"a": FIRST, "b": FIRST}),
-    Case("an argument that isn't UTF-8 is one too", ["run", b"\xff"], 2, err=[b"an argument is not UTF-8"]),
-    Case("help names the commands, shows an example and names the page of the script language", ["--help"], 0, [b"Usage: lanes <COMMAND>", *(f"\n  {name} ".encode() for name in COMMANDS), b"--version", b"table 2 T A SMALLINT", b"docs/FORMATS.md"]),
+    Case("an argument that isn't UTF-8 is one too", ["run", b"\xff"], 2, err=[b"argument 2 is not UTF-8"]),
+    Case("help names the commands in groups, and the pages", ["--help"], 0, [b"Usage: lanes <COMMAND>", *(f"\n  {name} ".encode() for name in COMMANDS), b"One table, in a file or a folder:\n", b"Between sites:\n", b"Over many machines:\n", b"Scripts:\n", b"--version", b"docs/COMMANDS.md", b"docs/SQL.md"]),
     Case("help of a command shows an example and names the page of the script language", ["run", "--help"], 0, [b"Usage: lanes run [OPTIONS] [SCRIPT]", b"--explain", b"table 2 T A SMALLINT", b"docs/FORMATS.md"]),
     Case("help of merge says what becomes of the file that is written", ["merge", "--help"], 0, [b"Usage: lanes merge [OPTIONS] <OUT> <IN>...", b"OUT is replaced as a whole", b"stays as it was if the merge is refused"]),
-    Case("the version is a line", ["--version"], 0, b"lanes 0.9.0\n"),
+    Case("the version is a line", ["--version"], 0, b"lanes 0.10.0\n"),
     Case(
         "refused lines are explained where that is asked for, and the replies stay as they are",
         ["run", "--explain"],
@@ -153,8 +156,11 @@ CASES = [
     Case("a file of another magic is refused", ["check", "t"], 1, err=b"refused BadMagic\nt: the first four bytes are not those of this format\n", files={"t": b"G" + ONE_ROW[1:]}),
     Case("a wider packing isn't canonical", ["check", "t"], 1, err=b"refused NotCanonical 29\nt, byte 29: not in canonical form from this byte on\n", files={"t": WIDER}),
     Case("the name - is a file's name for check", ["check", "-"], 0, b"ok batches=1 ranges=0\n", files={"-": ONE_ROW}),
-    Case("a report of a check that can't be written is a failed write", ["check", "t"], 1, err=b"refused WriteFault\nstandard output: no space is left on the device\n", files={"t": ONE_ROW}, output_to="full"),
+    Case("a report of a check that can't be written is a failed write", ["check", "t"], 1, err=b"refused WriteFault\nlanes check t: standard output: no space is left on the device\n", files={"t": ONE_ROW}, output_to="full"),
     Case("check wants a file", ["check"], 2, err=[b"FILE"]),
+    Case("a list of batches has no digest", ["inspect", "--batches", "--digest", "t"], 2, err=[b"--digest does not go with --batches"], files={"t": ONE_ROW}),
+    Case("the digest in JSON is a text", ["inspect", "--digest", "--format", "json", "t"], 0, [b'{"table":"T","digest":"' + hashlib.sha512(ONE_ROW).hexdigest()[:32].encode() + b'","batches":1,'], files={"t": ONE_ROW}),
+    Case("what has no canonical file has no digest", ["inspect", "--digest", "s"], 1, err=[b"refused BadMagic"], files={"s": b"FLSM\1\0"}),
     Case("one file merged is the same file", ["merge", "out", "t"], 0, b"ok\n", files={"t": ONE_ROW}, writes={"out": ONE_ROW}),
     Case("a file merged with itself is the same file", ["merge", "out", "t", "t"], 0, b"ok\n", files={"t": ONE_ROW}, writes={"out": ONE_ROW}),
     Case("the file that is written may be one that is merged", ["merge", "t", "t", "u"], 0, b"ok\n", files={"t": ONE_ROW, "u": SECOND_BATCH}, writes={"t": BOTH, "u": SECOND_BATCH}),
@@ -190,11 +196,11 @@ CASES = [
         files={"t": BOTH},
     ),
     Case("the first refusal ends them", ["query", "t", "SELECT SUM(A) FROM T", "SELECT B FROM T GROUP BY B", "SELECT"], 1, b"SUM(A)\n7\n", b"refused NoSuchColumn 7\nquery 2, byte 7: there is no column \"B\": the table has A\n", files={"t": ONE_ROW}),
-    Case("an empty query is a fault at its beginning", ["query", "t", ""], 1, err=b"refused Syntax 0\nbyte 0: the text ends too early; expected SELECT\n", files={"t": ONE_ROW}),
-    Case("a query that begins with a hyphen is a query", ["query", "t", "-x"], 1, err=b"refused Syntax 0\nbyte 0: \"-\" is not possible here; expected SELECT\n", files={"t": ONE_ROW}),
+    Case("an empty query is a fault at its beginning", ["query", "t", ""], 1, err=b"refused Syntax 0\nbyte 0: the query is empty\n", files={"t": ONE_ROW}),
+    Case("a query that begins with a hyphen is a query after two hyphens", ["query", "t", "--", "-x"], 1, err=b"refused Syntax 0\nbyte 0: \"-\" is not possible here; expected SELECT\n", files={"t": ONE_ROW}),
     Case("another table's query is refused", ["query", "t", "SELECT SUM(A) FROM U"], 1, err=b"refused NoSuchTable\nthere is no table \"U\": the table here is T\n", files={"t": ONE_ROW}),
     Case("a file is judged before a query", ["query", "t", "SELECT"], 1, err=b"refused Truncated 3\nt, byte 3: the bytes end too early\n", files={"t": b"FLC"}),
-    Case("an answer that can't be written is a failed write", ["query", "t", "SELECT SUM(A) FROM T"], 1, err=b"refused WriteFault\nstandard output: no space is left on the device\n", files={"t": ONE_ROW}, output_to="full"),
+    Case("an answer that can't be written is a failed write", ["query", "t", "SELECT SUM(A) FROM T"], 1, err=b"refused WriteFault\nlanes query t: standard output: no space is left on the device\n", files={"t": ONE_ROW}, output_to="full"),
     Case(
         "on a terminal a caret stands under the place where a query is refused",
         ["query", "t", "SELECT SUM(A) FROM T", "SELECT COUNT(B) FROM T"],
@@ -308,12 +314,8 @@ CASES = [
         Case(f"a mean of -0.5 has its sign as {form}", ["query", "--format", form, "t", "SELECT AVG(A) AS M FROM T"], 0, wanted, files={"t": MEAN})
         for form, wanted in {"text": b"M\n-0.500000\n", "csv": b"M\n-0.500000\n", "json": b'{"M":-0.500000}\n', "table": b"        M\n---------\n-0.500000\n"}.items()
     ),
-    Case("an option behind the first query is a fault of the command line", ["query", "t", "SELECT SUM(A) FROM T", "--format", "json"], 2, err=[b"options go before FILE", b"Usage: lanes query [OPTIONS] <FILE> <SQL>..."], files={"t": BOTH}),
-    Case("the first query is taken as it is", ["query", "t", "--format"], 1, err=b"refused Syntax 0\nbyte 0: there are no comments\n", files={"t": BOTH}),
-    Case("one hyphen is told as two are", ["import", "-q", "t", "-"], 1, err=b"refused ReadFault\n-q: no such file or folder (and this command has no such option: options are written in full, as --help)\n", files={"t": ONE_ROW}),
     Case("a folder is not an offer, and its parts are", ["apply", "t", "d"], 1, err=b"refused ReadFault\nd: this is a folder: apply its parts, as OFFER/*.lanes\n", files={"t": ONE_ROW, **FOLDER}, writes={"t": ONE_ROW}),
     Case("a folder is not one for a folder either", ["apply", "d", "e"], 1, err=b"refused ReadFault\ne: this is a folder: apply its parts, as OFFER/*.lanes\n", files={"d/%s.lanes" % hashlib.sha512(ONE_ROW).hexdigest()[:32]: ONE_ROW, "e/kept": b"old"}),
-    Case("a file that isn't there and is named like an option is said to be none", ["check", "--quick"], 1, err=b"refused ReadFault\n--quick: no such file or folder (and this command has no such option: options are written in full, as --help)\n"),
     Case("another form is a fault of the command line", ["query", "--format", "xml", "t", "SELECT A FROM T"], 2, err=[b"FORMAT is text, csv, json or table"]),
     Case("lines of standard input are queries", ["query", "t", "-"], 0, b"SUM(A)\n14\nCOUNT(*)\n2\n", input=b"SELECT SUM(A) FROM T\n\nSELECT COUNT(*) FROM T", files={"t": BOTH}),
     Case(
@@ -325,25 +327,31 @@ CASES = [
         input=b"x\nSE\xff\n" + b"y" * 1_048_577 + b"\nSELECT SUM(A) FROM T\n",
         files={"t": BOTH},
     ),
-    Case("on a terminal lines are asked for", ["query", "t", "-"], 0, b"COUNT(*)\n2\n", b"lanes> lanes> ", input=b"SELECT COUNT(*) FROM T\n", files={"t": BOTH}, input_from="terminal"),
+    Case("on a terminal lines are asked for, and it is said how to leave", ["query", "t", "-"], 0, b"COUNT(*)\n2\n", WELCOME + b"lanes> lanes> ", input=b"SELECT COUNT(*) FROM T\n", files={"t": BOTH}, input_from="terminal"),
+    Case("there a query may end in a semicolon", ["query", "t", "-"], 0, b"COUNT(*)\n2\n", WELCOME + b"lanes> lanes> ", input=b"SELECT COUNT(*) FROM T ; \n", files={"t": BOTH}, input_from="terminal"),
+    Case("a semicolon in its midst is refused", ["query", "t", "-"], 1, err=[b"refused Syntax 22\nline 1, byte 22: there is no semicolon"], input=b"SELECT COUNT(*) FROM T; SELECT\n", files={"t": BOTH}, input_from="terminal"),
+    *(
+        Case(f"{word} leaves", ["query", "t", "-"], 0, b"COUNT(*)\n2\n", WELCOME + b"lanes> lanes> ", input=b"SELECT COUNT(*) FROM T\n%s\nSELECT\n" % word.encode(), files={"t": BOTH}, input_from="terminal")
+        for word in ("quit", "QUIT;", " exit", "\\q")
+    ),
+    Case("help says how to ask and how to leave", ["query", "t", "-"], 0, b"", [WELCOME + b"lanes> A query is a line", b"Ctrl-D", b"leaves.\nlanes> "], input=b"help\n", files={"t": BOTH}, input_from="terminal"),
+    Case("in a pipe help is no word of its own", ["query", "t", "-"], 1, err=[b"refused Syntax 0\n"], input=b"help\n", files={"t": BOTH}),
     Case("lines that are queries stand alone", ["query", "t", "-", "SELECT A FROM T"], 2, err=[b"SQL that is - is the only SQL"]),
     Case("a file is an offer of itself", ["apply", "t", "u"], 0, b"ok batches=2 ranges=0 new=1\n", files={"t": ONE_ROW, "u": SECOND_BATCH}, writes={"t": BOTH}),
     Case("of several offers the new batches are counted once", ["apply", "t", "u", "v", "u", "t"], 0, b"ok batches=3 ranges=0 new=2\n", files={"t": ONE_ROW, "u": BOTH, "v": ALL_THREE}, writes={"t": ALL_THREE}),
     Case("offers are applied all or not at all", ["apply", "t", "u", "v"], 1, err=b"refused Conflict 1.1\nt: this has batch 1.1 already, with other rows\n", files={"t": ONE_ROW, "u": SECOND_BATCH, "v": OTHER_ROW}, writes={"t": ONE_ROW}),
     Case("an offer of another table is refused", ["apply", "t", "u"], 1, err=b"refused SchemaDiffers\nu: this holds the table U (A SMALLINT), but t holds T (A SMALLINT)\n", files={"t": ONE_ROW, "u": OTHER_TABLE}, writes={"t": ONE_ROW}),
-    Case("an offer that is empty is said to be", ["apply", "t", "-"], 1, err=b"refused Truncated 0\nstandard input: this is empty: did the command before it fail?\n", files={"t": ONE_ROW}, writes={"t": ONE_ROW}),
+    Case("an offer that is empty is said to be", ["apply", "t", "-"], 1, err=b"refused Truncated 0\nlanes apply t: standard input: this is empty: did the command before it fail?\n", files={"t": ONE_ROW}, writes={"t": ONE_ROW}),
     Case("of several offers the one of another table is named", ["apply", "t", "u", "v"], 1, err=b"refused SchemaDiffers\nv: this holds the table U (A SMALLINT), but t holds T (A SMALLINT)\n", files={"t": ONE_ROW, "u": SECOND_BATCH, "v": OTHER_TABLE}, writes={"t": ONE_ROW}),
     *(
         Case(f"{words[0]} prints nothing if it is to be quiet", [words[0], "--quiet", *words[1:]], 0, b"", files={"t": ONE_ROW, "u": SECOND_BATCH, "rows": b"A\n7\n"})
         for words in (["create", "new", "T", "A", "SMALLINT"], ["import", "t", "rows"], ["delete", "t", "A = 7"], ["delete-rows", "t", "1.1", "0", "0"], ["apply", "t", "u"], ["merge", "out", "t", "u"])
     ),
-    Case("a refusal is said though it is to be quiet", ["import", "--quiet", "--no-header", "t", "-"], 1, err=b'refused BadCsv 1 1\nstandard input, line 1, column A: "x" is not a whole number\n', input=b"x\n", files={"t": ONE_ROW}, writes={"t": ONE_ROW}),
+    Case("a refusal is said though it is to be quiet", ["import", "--quiet", "--no-header", "t", "-"], 1, err=b'refused BadCsv 1 1\nlanes import t: standard input, line 1, column A: "x" is not a whole number\n', input=b"x\n", files={"t": ONE_ROW}, writes={"t": ONE_ROW}),
     Case("several texts are imported under names that count on", ["import", "--batch", "2.1", "t", "rows", "-"], 0, b"ok batches=2 new=2 rows=2 first=2.1\n", input=b"A\n8\n", files={"t": ONE_ROW, "rows": b"A\n7\n"}, writes={"t": file_of(b"T", batch(1, 1, 7), batch(2, 1, 7), batch(2, 2, 8))}),
     Case("of several texts all are imported or none", ["import", "t", "rows", "bad", "worse"], 1, err=b'refused BadCsv 2 1\nbad, line 2, column A: "x" is not a whole number\n', files={"t": ONE_ROW, "rows": b"A\n7\n", "bad": b"A\nx\n", "worse": b""}, writes={"t": ONE_ROW}),
-    Case("an option behind the first text is a fault of the command line", ["import", "t", "rows", "--batch", "1.1"], 2, err=[b"options go before FILE"], files={"t": ONE_ROW, "rows": b"A\n7\n"}, writes={"t": ONE_ROW}),
     Case("one text alone may be standard input", ["import", "t", "-", "-"], 2, err=[b"only one CSV can be -"], files={"t": ONE_ROW}),
     Case("one offer alone may be standard input", ["apply", "t", "-", "-"], 2, err=[b"only one OFFER can be -"]),
     Case("a summary isn't written to a terminal", ["summary", "t"], 2, err=[b"standard output is a terminal"], files={"t": ONE_ROW}, output_to="terminal"),
     Case("nor is an offer", ["offer", "t", "-"], 2, err=[b"standard output is a terminal"], files={"t": ONE_ROW}, output_to="terminal"),
-    Case("an option behind a file is a text", ["delete", "t", "--help"], 1, err=[b"refused Syntax 1\n"], files={"t": ONE_ROW}),
 ]

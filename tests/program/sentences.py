@@ -12,8 +12,8 @@ ONE_COLUMN = file_of(b"T")
 # A query, why it is refused, and what is said of it. The places are those that docs/SQL.md gives.
 QUERIES = [
     ("SELECT * FROM VISITS", "Syntax 7", "byte 7: a query lists grouping columns and set functions: lanes dump writes the rows"),
-    ("SELECT SITE FROM VISITS ORDER BY SITE", "Syntax 24", "byte 24: there is no ORDER BY: rows ascend by the columns of GROUP BY; sort the answer, as by sort"),
-    ("SELECT COUNT(*) FROM VISITS limit 3", "Syntax 28", "byte 28: there is no LIMIT: cut the answer, as by head"),
+    ("SELECT SITE FROM VISITS ORDER BY SITE", "Syntax 24", "byte 24: there is no ORDER BY: rows ascend by the columns of GROUP BY; pipe the answer through sort -n"),
+    ("SELECT COUNT(*) FROM VISITS limit 3", "Syntax 28", "byte 28: there is no LIMIT: pipe the answer through head"),
     ("SELECT COUNT(*) FROM VISITS;", "Syntax 27", "byte 27: there is no semicolon: a query ends with its text"),
     ("SELECT COUNT(*) FROM VISITS WHERE SITE != 1", "Syntax 39", "byte 39: not equal is written <>"),
     ("SELECT COUNT(*) FROM VISITS WHERE SITE == 1", "Syntax 40", "byte 40: equal is written ="),
@@ -32,7 +32,7 @@ QUERIES = [
     ("SELECT COUNT(*) FROM VISITS JOIN T", "Syntax 28", "byte 28: there are no joins: a query asks one table"),
     ("SELECT COUNT(*) FROM (SELECT SITE FROM VISITS)", "Syntax 21", "byte 21: \"(\" is not possible here; expected the table's name"),
     ("DELETE FROM VISITS", "Syntax 0", "byte 0: a query changes nothing: lanes delete deletes rows"),
-    ("", "Syntax 0", "byte 0: the text ends too early; expected SELECT"),
+    ("", "Syntax 0", "byte 0: the query is empty"),
     ("SELECT COUNT(*)", "Syntax 15", "byte 15: the text ends too early; expected a comma, FROM, AS or a name"),
     ("SELECT COUNT(*) FROM VISITS WHERE", "Syntax 33", "byte 33: the text ends too early; expected a condition"),
     ("SELECT COUNT(*) AS SUM FROM VISITS", "Syntax 19", "byte 19: \"SUM\" is not possible here; expected a name that is not a keyword"),
@@ -71,11 +71,11 @@ LINES = [
 BEGINNINGS = [
     (b"\xff\xfeA\x00", "this is UTF-16: save it as UTF-8"),
     (b"A\x00", "this is UTF-16, or no text: save it as UTF-8"),
-    (b"\x1f\x8b\x08", "this is packed by gzip: unpack it, as by gzip -dc"),
+    (b"\x1f\x8b\x08", "this is packed by gzip: unpack it with gzip -dc"),
     (b"PK\x03\x04", "this is a zip file or a workbook: save it as CSV"),
     (b'{"A":1', "this is JSON: write its numbers as CSV"),
     (b"<!DOCTYPE html>", "this is HTML or XML: did a download fail?"),
-    (b"FLCF", "this is a file or an offer of lanes"),
+    (b"FLCF", "this is a table or an offer: lanes summary makes a summary of a table, and lanes partial a partial answer"),
 ]
 
 # Options of an import, its table, and the place at which such a text is refused: a line, a heading or a field.
@@ -131,7 +131,7 @@ SENTENCE_CASES = [
     *(refused_rows([], text, VISITS, (f"1 {field}", f"line 1, field {field}"), sentence) for text, field, sentence in HEADINGS),
     *(shown_query(*case) for case in CARETS),
     Case("the table that a file holds is told in whole", ["merge", "out", "t", "u"], 1, err=b"refused SchemaDiffers\nu: this holds the table T (A SMALLINT, B SMALLINT, C SMALLINT), but t holds VISITS (SITE SMALLINT, HITS INTEGER)\n", files={"t": VISITS, "u": THREE}),
-    Case("a text is no file of lanes", ["check", "one.csv"], 1, err=b"refused BadMagic\none.csv: this is a text and no file of lanes: lanes import reads comma-separated values, and lanes run a script\n", files={"one.csv": b"SITE,HITS\r\n1,2\r\n"}),
+    Case("a text is no file of lanes", ["check", "one.csv"], 1, err=b"refused BadMagic\none.csv: this is a text file, not a lanes file: import CSV with lanes import, run a script with lanes run\n", files={"one.csv": b"SITE,HITS\r\n1,2\r\n"}),
     Case("a summary is told as one", ["check", "t"], 1, err=b"refused BadMagic\nt: this is a summary: lanes offer and lanes inspect read it\n", files={"t": b"FLSM\x01\0"}),
     Case("a name has no byte that a terminal acts on", ["check", "t\u001b[2J"], 1, err=b"refused Truncated 3\nt [2J, byte 3: the bytes end too early\n", files={"t\u001b[2J": b"FLC"}),
 ]

@@ -7,37 +7,40 @@ A replicated column store for one table of nullable integer columns
 
 Usage: lanes <COMMAND>
 
-Commands:
-  create       Creates the file of an empty table, or a folder of parts
+One table, in a file or a folder:
+  create       Creates an empty table: a file, or a folder if the name ends in /
   import       Inserts rows of comma-separated values
   query        Writes the answers of queries, one after another; docs/SQL.md describes the language
-  partial      Writes what a file gives to the answer of a query over many files, for lanes combine
-  combine      Combines the partial answers of several files, for lanes finish
-  finish       Writes the answer of the query that a partial answer is of
   delete       Deletes the rows for which a condition is true
-  delete-rows  Deletes rows by their names, whether they are there or arrive later
+  delete-rows  Deletes rows by their names, also rows that arrive later
   forget       Drops the batches of which every row is deleted; no answer changes
   dump         Writes the rows as comma-separated values
   inspect      Writes what a file holds and how its columns are coded
+  check        Says whether a file is in canonical form, and how many batches and ranges of deletions it has
+  pack         Joins small parts of a folder into one, so that there are few
+
+Between sites:
   summary      Writes the names of a file's batches, for lanes offer
   offer        Writes what a file has and a summary does not, for lanes apply
   apply        Applies offers, or other files of the same table, to a file
-  check        Says whether a file is in canonical form, and how many batches and ranges of deletions it has
-  merge        Writes the canonical file of all that some files hold
+  merge        Merges files and folders into one file
+
+Over many machines:
   spread       Spreads what a file holds over new files, which share no batch
-  pack         Joins small parts of a folder into one, so that there are few
+  partial      Computes a file's partial answer to a query over many files
+  combine      Combines the partial answers of several files, for lanes finish
+  finish       Turns a partial answer into the answer
+
+Scripts:
   run          Runs a script and writes its replies to standard output
-  help         Print this message or the help of the given subcommand(s)
+  help         Print this message, or the help of a command
 
 Options:
   -h, --help     Print help
   -V, --version  Print version
 
-A script has lines such as these, and each has a reply:
-  table 2 T A SMALLINT
-  append 1 (7),(NULL)
-  query 1 SELECT COUNT(*) FROM T
-All lines and replies are in docs/FORMATS.md, and examples/ has scripts to run.
+lanes help COMMAND says how a command is used. README.md has a first example, docs/COMMANDS.md all about each command,
+and docs/SQL.md the language of queries.
 """
 
 RUN_HELP = """\
@@ -46,7 +49,7 @@ Runs a script and writes its replies to standard output
 Usage: lanes run [OPTIONS] [SCRIPT]
 
 Arguments:
-  [SCRIPT]  The script's file, or - for standard input, which is read too if none is named
+  [SCRIPT]  The script (default: standard input)
 
 Options:
       --explain  Say on standard error for each refused line its number and why it is refused
@@ -60,7 +63,7 @@ All lines and replies are in docs/FORMATS.md, and examples/ has scripts to run.
 """
 
 MERGE_HELP = """\
-Writes the canonical file of all that some files hold
+Merges files and folders into one file
 
 Usage: lanes merge [OPTIONS] <OUT> <IN>...
 
@@ -69,7 +72,7 @@ Arguments:
   <IN>...  The files that are merged, in this order
 
 Options:
-      --quiet  Print nothing if all is well
+      --quiet  Print nothing on success
   -h, --help   Print help
 
 OUT is replaced as a whole, and stays as it was if the merge is refused. If OUT is not a regular file it is written in place.
@@ -86,7 +89,7 @@ Arguments:
   <OUT>...  The files that are made
 
 Options:
-      --quiet  Print nothing if all is well
+      --quiet  Print nothing on success
   -h, --help   Print help
 
 Each batch goes to one OUT, with the deletions of its rows, and the OUTs have about as many bytes each. Merged they are FILE.
@@ -103,7 +106,7 @@ Arguments:
 
 Options:
       --all    Join all parts into one
-      --quiet  Print nothing if all is well
+      --quiet  Print nothing on success
   -h, --help   Print help
 
 Each change of a folder adds a part. Run this each hour, as by cron, so that there are few: small parts are joined into one, and are
@@ -111,7 +114,7 @@ then removed. What the folder holds stays the same, and other commands may run m
 """
 
 PARTIAL_HELP = """\
-Writes what a file gives to the answer of a query over many files, for lanes combine
+Computes a file's partial answer to a query over many files
 
 Usage: lanes partial <FILE> <SQL>
 
@@ -141,7 +144,7 @@ The partial answers are of one query, and of files that share no batch. Their or
 answer too.
 """
 
-# Help names each command and shows a script.
+# Help names each command, in groups.
 HELP = [
     (["--help"], PROGRAM_HELP),
     (["help"], PROGRAM_HELP),
@@ -158,14 +161,14 @@ FAULTS = [
     ([], "error: 'lanes' requires a subcommand but one was not provided\n  [subcommands: create, import, query, partial, combine, finish, delete, delete-rows, forget, dump, inspect, summary, offer, apply, check, merge, spread, pack, run, help]\n\nUsage: lanes <COMMAND>\n\nFor more information, try '--help'.\n"),
     (["run", "x", "y"], "error: unexpected argument 'y' found\n\nUsage: lanes run [OPTIONS] [SCRIPT]\n\nFor more information, try '--help'.\n"),
     (["bogus"], "error: unrecognized subcommand 'bogus'\n\nUsage: lanes <COMMAND>\n\nFor more information, try '--help'.\n"),
-    (["query", "t", "A", "--x"], "error: options go before FILE: after it, a word that begins with -- is not an option\n\nUsage: lanes query [OPTIONS] <FILE> <SQL>...\n\nFor more information, try '--help'.\n"),
+    (["query", "t", "A", "--x"], 'error: lanes query has no option "--x", only --format and --help: no query begins with -\n\nUsage: lanes query [OPTIONS] <FILE> <SQL>...\n\nFor more information, try \'--help\'.\n'),
     (["create", "t", "T", "A", "text"], "error: each column is a name and its type, TINYINT, SMALLINT, INTEGER or BIGINT\n\nUsage: lanes create [OPTIONS] <FILE> <TABLE> <COL TYPE>...\n\nFor more information, try '--help'.\n"),
 ]
 
 # Command lines that have a word too few or too many, or one that is malformed.
 MALFORMED = [
     ["spread", "t"],
-    ["query", "t", "A", "--format", "json"],
+    ["query", "t", "A", "--format"],
     ["query", "t", "A", "-x", "-"],
     ["query", "t", "-", "A"],
     ["query", "t", "-", "-"],
@@ -190,14 +193,14 @@ MALFORMED = [
     ["import", "--null", "0", "f", "c"],
     ["import", "--null", "-000000000000000000000000000001", "f", "c"],
     ["import", "f", "-", "-"],
-    ["import", "f", "c", "--batch", "1.1"],
+    ["import", "f", "c", "--batch"],
     ["check", "--quiet", "f"],
     ["import", "--batch", "1.4294967296", "f", "c"],
     ["import", "--batch", "00000000001.1", "f", "c"],
-    ["delete-rows", "f", "--held", "1.2", "1", "3"],
+    ["delete-rows", "f", "-1.2", "1", "3"],
     ["delete-rows", "f", "1.2", "0", "65536"],
     ["delete-rows", "f", "1.2", "0", "000001"],
-    ["pack", "d", "--all"],
+    ["pack", "d", "-all"],
     ["finish", "--expect", "-", "-"],
     ["finish", "--format", "xml", "p"],
     ["finish", "p", "--format"],
@@ -231,7 +234,7 @@ MALFORMED = [
     ["imports", "f", "c"],
     ["query", "t"],
     ["partial", "t"],
-    ["part", "t", "A", "B"],
+    ["part", "t", "A"],
     ["combine"],
     ["combine", "-", "a", "-"],
     ["finish"],
