@@ -121,4 +121,5 @@ def main():
             print(line)
 
 
-sys.exit(main())
+if __name__ == "__main__":
+    sys.exit(main())

@@ -10,7 +10,7 @@ import pathlib, re, sys
 
 CRATES = pathlib.Path(__file__).resolve().parent.parent / "crates"
 # Below these crates it is looked at each source. Those of the protocol and of what commands do by it have no call at all.
-LOOKED_AT = ["part_folder", "lanes", "folder_commands", "folder_home", "folder_histories", "folder_history", "folder_protocol", "folder_replay"]
+LOOKED_AT = ["part_folder", "lanes", "program_folders", "program_files", "program_changes", "program_failures", "program_inputs", "folder_commands", "folder_home", "folder_histories", "folder_history", "folder_protocol", "folder_replay"]
 CALL = re.compile(r"\bfs::[a-z_]+\(|\bOpenOptions::new\(|\.sync_all\(|\.sync_data\(|\.set_len\(|\.try_lock\(|\.try_lock_shared\(")
 CHANGES = re.compile(r"\bfs::(create|write|rename|remove|hard_link|copy|set_)[a-z_]*\(|\bOpenOptions::new\(|\.sync_all\(|\.sync_data\(|\.set_len\(")
 
@@ -27,18 +27,18 @@ IMPLEMENTATION = {
 CHANGING = {
     "part_folder/src/making.rt": (7, "it makes a folder under a name that no command takes, and renames it once it is whole; the part in it is put by the calls of the protocol"),
     "part_folder/src/sweeping.rt": (7, "it removes folders that were not made to the end, which no command takes"),
-    "lanes/src/output.rt": (2, "it writes OUT, which is no folder"),
+    "program_files/src/output.rt": (2, "it writes OUT, which is no folder"),
+    "program_files/src/watched_folder.rt": (3, "it hands a call on the lock of a FILE to file_replacing, and opens FILE to see that it may be written"),
     "lanes/src/spreading.rt": (3, "it removes the files and folders that a spread has made, if it is refused"),
 }
 # Calls that change nothing, on operands and inputs.
 LOOKING = {
-    "lanes/src/packing.rt": (1, "it asks if its operand is a file"),
-    "lanes/src/home.rt": (2, "it asks if an operand is a folder, and if its name is free"),
-    "lanes/src/inputs.rt": (1, "it reads inputs"),
-    "lanes/src/failure.rt": (4, "it looks at an operand that was refused, for a sentence"),
+    "program_folders/src/packing.rt": (1, "it asks if its operand is a file"),
+    "program_inputs/src/home.rt": (2, "it asks if an operand is a folder, and if its name is free"),
+    "program_inputs/src/inputs.rt": (1, "it reads inputs"),
+    "program_failures/src/failure.rt": (4, "it looks at an operand that was refused, for a sentence"),
     "lanes/src/merging.rt": (2, "it asks if OUT is one of the inputs"),
-    "lanes/src/watched_folder.rt": (1, "it hands a call on the lock of a FILE to file_replacing"),
-    "lanes/src/progress.rt": (1, "it asks for the size of an input, which it says at a terminal"),
+    "program_inputs/src/progress.rt": (1, "it asks for the size of an input, which it says at a terminal"),
 }
 
 

@@ -1,14 +1,21 @@
 #!/usr/bin/env python3
 """Checks a few words of the pages that are written by hand: README.md, CONTRIBUTING.md, docs/*.md but DEFINITIONS.md, the examples, the
-READMEs of tests and benchmarks, and those of crates; and of the docstrings of all crates. A condition is told by `if` or `when`, so the
+READMEs of tests and benchmarks, and those of crates; of the docstrings of all crates and of Python's; of the comments of include/ and
+c/; and, if a program is named, of its help. A condition is told by `if` or `when`, so the
 word `where` comes in headings alone; and `is had` and `is none` are not said. Nor are they in the texts of the program's messages, in all
-crates. The pages that belong to no crate, and the messages, do not say `stands` for `is`, `lacks`, `beside` and `maybe` either. Code is passed over. It prints each line that is wrong, and the status is then 1."""
-import pathlib, re, sys
+crates. The pages that belong to no crate, and the messages, do not say `stands` for `is`, `lacks`, `beside` and `maybe` either. Code is passed over. It prints each line that is wrong, and the status is then 1.
+
+    docs/english.py [PROGRAM]"""
+import ast, pathlib, re, subprocess, sys
 
 TOP = pathlib.Path(__file__).resolve().parent.parent
 PAGES = ["README.md", "CONTRIBUTING.md", "docs/*.md", "examples/*.md", "tests/README.md", "bench/README.md", "python/README.md"]
 READMES = ["crates/*/README.md"]
+PYTHON = ["python/lanes/*.py"]
+C = ["include/*.h", "c/*.h", "c/*.c"]
 WRITTEN = ["DEFINITIONS.md"]
+# The option whose name is that of the clause.
+WHERE_CLAUSE = "--where"
 # A text of a program that has two words at least, so that names and options are none.
 TEXT = re.compile(r'"((?:[^"\\]|\\.)* (?:[^"\\]|\\.)*)"')
 # The condition of a script's line.
@@ -36,6 +43,28 @@ def messages_of(source):
     return [(number, text.replace(SCRIPT_WORD, "")) for number, line in lines for text in TEXT.findall(line)]
 
 
+def python_docstrings_of(source):
+    """The lines of docstrings of a source in Python, each with its number, without their code."""
+    kinds = (ast.Module, ast.ClassDef, ast.FunctionDef, ast.AsyncFunctionDef)
+    nodes = [node for node in ast.walk(ast.parse(source.read_text())) if isinstance(node, kinds) and ast.get_docstring(node, clean=False)]
+    texts = [(node.body[0].lineno, re.sub(r"`[^`]*`", lambda code: "`" + "\n" * code[0].count("\n"), node.body[0].value.value)) for node in nodes]
+    return [(first + at, line) for first, text in texts for at, line in enumerate(text.splitlines())]
+
+
+def comments_of(source):
+    """The lines of comments of a source in C, each with its number, without what is between backquotes."""
+    text = re.sub(r"/\*.*?\*/|[^\n]", lambda found: found[0] if found[0].startswith("/*") else "", source.read_text(), flags=re.S)
+    return [(number, re.sub(r"`[^`]*`", "`", line)) for number, line in enumerate(text.splitlines(), 1)]
+
+
+def help_of(program):
+    """The lines of the help of a program and of its commands, each with its number."""
+    whole = subprocess.run([program, "--help"], stdout=subprocess.PIPE, text=True, check=True).stdout
+    commands = re.findall(r"^  ([a-z-]+)  +[A-Z]", whole, re.M)
+    texts = [whole] + [subprocess.run([program, name, "--help"], stdout=subprocess.PIPE, text=True, check=True).stdout for name in commands if name != "help"]
+    return list(enumerate("".join(texts).splitlines(), 1))
+
+
 def faults_of(file, lines, not_said=NOT_SAID):
     """The words of these lines of a file that are not said."""
     return [f"{file.relative_to(TOP)}:{number}: {found[0]}" for number, line in lines for found in not_said.finditer(line)]
@@ -53,6 +82,11 @@ def main():
     wrong += [fault for page in pages_of(READMES) for fault in faults_of(page, lines_of(page))]
     wrong += [fault for source in sources for fault in faults_of(source, docstrings_of(source))]
     wrong += [fault for source in speaking for fault in faults_of(source, messages_of(source), NOT_SAID_TO_USERS)]
+    wrong += [fault for source in pages_of(PYTHON) for fault in faults_of(source, python_docstrings_of(source), NOT_SAID_TO_USERS)]
+    wrong += [fault for source in pages_of(C) for fault in faults_of(source, comments_of(source), NOT_SAID_TO_USERS)]
+    for program in sys.argv[1:]:
+        lines = [(number, line.replace(WHERE_CLAUSE, "")) for number, line in help_of(program)]
+        wrong += [f"{program} --help, line {number}: {found[0]}" for number, line in lines for found in NOT_SAID_TO_USERS.finditer(line)]
     print("".join(f"{line}\n" for line in wrong), end="")
     sys.exit(1 if wrong else 0)
 

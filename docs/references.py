@@ -1,7 +1,7 @@
 #!/usr/bin/env python3
 """Checks what pages refer to: that each link to another file leads to one, that docs/GLOSSARY.md names for each word a file that defines
-it, that the map of docs/ARCHITECTURE.md has a row for each crate, below those of all crates that use it, and that the examples in the
-READMEs of crates are those that their tests run. It prints what is wrong, and the status is then 1."""
+it, that the map of docs/ARCHITECTURE.md has a row for each crate, below those of all crates that use it, that each crate has the
+public calls of whose clauses pages speak, and that the examples in the READMEs of crates are those that their tests run. It prints what is wrong, and the status is then 1."""
 import pathlib, re, sys
 
 TOP = pathlib.Path(__file__).resolve().parent.parent
@@ -59,6 +59,16 @@ def unmapped_crates():
                 yield f"docs/ARCHITECTURE.md: {name} uses {other}, whose row is above"
 
 
+def lost_calls():
+    """The calls whose clauses a page cites, as `x()` of `crate`, and that the crate does not have."""
+    for page in [page for pattern in PAGES for page in sorted(TOP.glob(pattern))]:
+        for calls, crate in re.findall(r"\bclauses? of ((?:[\w ]*`\w+\(?\)?`(?:, | and )?)+) of `(\w+)`", page.read_text()):
+            sources = "".join(source.read_text() for source in sorted((TOP / "crates" / crate).glob("src/**/*.rt")))
+            for call in re.findall(r"`(\w+)\(?\)?`", calls):
+                if not re.search(rf"\bpub fn {call}\b", sources):
+                    yield f"{page.relative_to(TOP)}: `{crate}` has no public call `{call}`"
+
+
 def untested_examples():
     """The READMEs of crates with an example that the crate's tests don't have, and tests of an example that isn't in the README."""
     for crate in sorted((TOP / "crates").iterdir()):
@@ -70,7 +80,7 @@ def untested_examples():
 
 
 def main():
-    wrong = [*dead_links(), *lost_words(), *unmapped_crates(), *untested_examples()]
+    wrong = [*dead_links(), *lost_words(), *unmapped_crates(), *lost_calls(), *untested_examples()]
     print("".join(f"{line}\n" for line in wrong), end="")
     sys.exit(1 if wrong else 0)
 

@@ -14,14 +14,19 @@ CRATES = TOP / "crates"
 SIBLINGS = {
     "A column type": (r"\bTINYINT\b|\bTiny\w*", []),
     "A step of a script": (r"\bServe\b|\bServed\b", ["cluster_history", "script_lines", "lanes_main"]),
-    "A command of the program": (r"\bForget\b|\bforget\b|\bFinish\b|\bpub fn finish\b", ["command_line", "lanes", "file_home", "replica_reading", "replica_commands"]),
+    "A command of the program": (r"\bSpread\b|\bspread\b|\bspread_command\b", ["command_line", "lanes", "lanes_c", "program_changes", "program_files", "program_folders"]),
     "A set function": (r"\bAVG\b|\bAvg\b", []),
     "A refusal": (r"\bNotGrouped\b|\bNOT_GROUPED\b", []),
     "A call of the library for C": (r"\blanes_finish\b", []),
 }
+# Further ones that belong to a list: of the commands the last one that changes a file, in the crates that such a command touches.
+FURTHER = {
+    "A command of the program": (r"\bForget\b|\bforget\b", ["command_line", "lanes", "program_changes", "program_files", "program_folders", "file_home", "replica_reading", "replica_commands"]),
+}
 # Below which folders of a crate code is looked for. Files of proofs that are named by a function come with it.
 CODE = ["src/**/*.rt", "specs/*.antt", "proofs/*.antt"]
-OTHER_CODE = ["include/*.h", "python/lanes/*.py", "c/*.c", "c/*.h"]
+# The other files of c/ are examples, which need no change.
+OTHER_CODE = ["include/*.h", "python/lanes/*.py", "c/lanes_*.c", "c/lanes_*.h"]
 
 
 def lists():
@@ -64,7 +69,8 @@ def wanted(pattern, crates):
 
 def omitted(head, items):
     """The files that belong to a list and that it does not name."""
-    for file, crate in wanted(*SIBLINGS[head]):
+    named = wanted(*SIBLINGS[head]) + (wanted(*FURTHER[head]) if head in FURTHER else [])
+    for file, crate in dict.fromkeys(named):
         path = str(file.relative_to(TOP))
         if not any(is_named(file, crate, item) if crate else path in item for item in items):
             yield f"CONTRIBUTING.md: {head}: {path} is not listed"
