@@ -1,34 +1,34 @@
 #!/usr/bin/env python3
 """Checks that the program makes no call of the system on what is in a folder but by the implementation of the protocol's calls.
-`crates/part_folder/src/system.rt` implements them (`Folder`, `Looks` and `Sweeps` of folder_protocol), over the files that are named beside
+`crates/folder_system/src/system.rt` implements them (`Folder`, `Looks` and `Sweeps` of folder_protocol), over the files that are named beside
 it; each is noted. Of folders that others keep, as through the library, the calls are made by who drives it. Beside it are folders that are
 made or that were not made to the end, operands and inputs.
 
-The script knows each place in the program and in part_folder that makes a call by `std::fs`, and how many such calls it makes. A call
+The script knows each place in the program and in folder_system that makes a call by `std::fs`, and how many such calls it makes. A call
 more or less is told: name it here with its reason, or make it through `SystemFolder`. It prints what is wrong, and the status is then 1."""
 import pathlib, re, sys
 
 CRATES = pathlib.Path(__file__).resolve().parent.parent / "crates"
 # Below these crates it is looked at each source. Those of the protocol and of what commands do by it have no call at all.
-LOOKED_AT = ["part_folder", "lanes", "program_folders", "program_files", "program_changes", "program_failures", "program_inputs", "folder_commands", "folder_home", "folder_histories", "folder_history", "folder_protocol", "folder_replay"]
+LOOKED_AT = ["folder_system", "lanes", "program_folders", "program_files", "program_changes", "program_failures", "program_inputs", "folder_commands", "folder_parts", "folder_simulation", "folder_model", "folder_protocol", "folder_turns"]
 CALL = re.compile(r"\bfs::[a-z_]+\(|\bOpenOptions::new\(|\.sync_all\(|\.sync_data\(|\.set_len\(|\.try_lock\(|\.try_lock_shared\(")
 CHANGES = re.compile(r"\bfs::(create|write|rename|remove|hard_link|copy|set_)[a-z_]*\(|\bOpenOptions::new\(|\.sync_all\(|\.sync_data\(|\.set_len\(")
 
 # The calls of the protocol, as SystemFolder makes and notes them.
 IMPLEMENTATION = {
-    "part_folder/src/system.rt": 5,
-    "part_folder/src/listing.rt": 1,
-    "part_folder/src/lock.rt": 3,
-    "part_folder/src/keeping.rt": 3,
-    "part_folder/src/temporary.rt": 9,
-    "part_folder/src/names.rt": 1,
+    "folder_system/src/system.rt": 5,
+    "folder_system/src/listing.rt": 1,
+    "folder_system/src/lock.rt": 3,
+    "folder_system/src/keeping.rt": 3,
+    "folder_system/src/temporary.rt": 9,
+    "folder_system/src/names.rt": 1,
 }
 # Calls that change something beside it.
 CHANGING = {
-    "part_folder/src/making.rt": (7, "it makes a folder under a name that no command takes, and renames it once it is whole; the part in it is put by the calls of the protocol"),
-    "part_folder/src/sweeping.rt": (7, "it removes folders that were not made to the end, which no command takes"),
+    "folder_system/src/making.rt": (7, "it makes a folder under a name that no command takes, and renames it once it is whole; the part in it is put by the calls of the protocol"),
+    "folder_system/src/sweeping.rt": (7, "it removes folders that were not made to the end, which no command takes"),
     "program_files/src/output.rt": (2, "it writes OUT, which is no folder"),
-    "program_files/src/watched_folder.rt": (3, "it hands a call on the lock of a FILE to file_replacing, and opens FILE to see that it may be written"),
+    "program_files/src/watched_folder.rt": (3, "it hands a call on the lock of a FILE to file_protocol, and opens FILE to see that it may be written"),
     "lanes/src/spreading.rt": (3, "it removes the files and folders that a spread has made, if it is refused"),
 }
 # Calls that change nothing, on operands and inputs.

@@ -1,4 +1,4 @@
-"""Each command's system calls on what is in a folder keep to the protocol: the rules of crates/folder_history/specs/Turn.antt, read off strace.
+"""Each command's system calls on what is in a folder keep to the protocol: the rules of crates/folder_model/specs/Turn.antt, read off strace.
 
 Of a call on a folder the protocol knows: made, wrote, synced, linked, removed, settled, locked, unlocked, began, listed, read and looked. A
 look at a name opens its file as a read does, so it is taken for one here. What the protocol says of the order of covering can't be seen in a

@@ -2,16 +2,16 @@
 use Rattle.std.specs.Prelude.{◌≡◌, ◌≢◌, ◌==◌, ℕ, true, not, List, [], ◌++◌, Option, Some, None, Ok, IfSome}
 use Rattle.std.proofs.Common.{refl, sym, ap, subst, ◌∙◌}
 use Rattle.std.proofs.lemmas.Bool.{ne_eqb}
-use Rattle.folder_history.specs.Call.{Call}
-use Rattle.folder_history.specs.Turn.{Gave, listing_of}
+use Rattle.folder_model.specs.Call.{Call}
+use Rattle.folder_model.specs.Turn.{Gave, listing_of}
 use Rattle.folder_protocol.specs.Causes.{Lacks, HasCall, LookCause}
 use Rattle.folder_protocol.specs.Goes.{GoesInTurn, AreRemoved}
 use Rattle.folder_protocol.specs.declared.putting.Outcome.{Outcome}
 use Rattle.folder_protocol.specs.declared.putting.Outcome.TheVariants.{OnDisk, Unsynced, Gone, Damaged}
 use Rattle.folder_protocol.proofs.Causing.{Follows}
 use Rattle.replica_store.specs.Replica.{Replica}
-use Rattle.replica_commands.specs.Forgetting.{forgetting}
-use Rattle.folder_home.specs.Covers.{folder_home}
+use Rattle.replica_changes.specs.Forgetting.{forgetting}
+use Rattle.folder_parts.specs.Covers.{folder_parts}
 use Rattle.folder_commands.specs.Joined.{AreRead, AreUnwanted, IsReadAs, WereGiven}
 use Rattle.folder_commands.specs.Replacing.{AreCoveredBy, Replaces, Packs, LeavesForgotten, IsForgot}
 use Rattle.folder_commands.proofs.Replacings.{pack_covered, forget_covered, read_later, replaced_after}
@@ -40,7 +40,7 @@ pack_covers passed names held whole bytes calls is read file =
     subst (λ (b : List ℕ). AreCoveredBy passed names b calls) (sym file.0) (pack_covered passed names whole calls (are_read passed names held whole calls is read) file.1)
 
 pub packs : (names : List (List ℕ)) (held : Option Replica) (whole : Replica) (bytes name : List ℕ) (gone : List (List ℕ)) (outcome : Option Outcome) (before mid after : List Call)
-    → held ≡ Some whole → IsReadAs [] names held mid → IsFileOf bytes whole → GoesInTurn folder_home before mid → Replaces [] names bytes name gone outcome mid after
+    → held ≡ Some whole → IsReadAs [] names held mid → IsFileOf bytes whole → GoesInTurn folder_parts before mid → Replaces [] names bytes name gone outcome mid after
     → Packs names name gone outcome before after
 packs names held whole bytes name gone outcome before mid after is read file first done = record {
   whole = whole;
@@ -66,7 +66,7 @@ forgets_none passed names held whole left dropped before calls is read forgot no
 
 -- some are
 pub forgets_some : (passed names : List (List ℕ)) (held : Option Replica) (whole left : Replica) (dropped : ℕ × ℕ) (bytes name : List ℕ) (gone : List (List ℕ)) (outcome : Option Outcome) (before mid after : List Call)
-    → held ≡ Some whole → IsReadAs passed names held mid → forgetting whole ≡ Ok (dropped, left) → IsFileOf bytes left → GoesInTurn folder_home before mid
+    → held ≡ Some whole → IsReadAs passed names held mid → forgetting whole ≡ Ok (dropped, left) → IsFileOf bytes left → GoesInTurn folder_parts before mid
     → Replaces passed names bytes name gone outcome mid after → LeavesForgotten passed names dropped name gone outcome before after
 forgets_some passed names held whole left dropped bytes name gone outcome before mid after is read forgot file first done = record {
   whole = whole;

@@ -3,7 +3,7 @@ use Rattle.std.specs.Prelude.{◌≡◌, ◌⊎◌, ℕ, suc, ◌+◌, ◌<◌, 
 use Rattle.std.proofs.Common.{refl, inl, inr, ⊎_elim, sym, ap, ◌∙◌, arith, get_or}
 use Rattle.std.proofs.lemmas.List.{append-nil, get_or-map, length-map, map-append, take-append-drop}
 use Rattle.std.proofs.lemmas.List.Elements.{filter_more, filter-append}
-use Rattle.folder_history.specs.Disk.{Among}
+use Rattle.folder_model.specs.Disk.{Among}
 
 module _ {X : Type 0} (f : X → List ℕ) (p : List ℕ → Bool) (names : List X) (i : ℕ) (x : X) (below : i < length names) (is : x ≡ get_or names i x) where
   at : get_or (map f names) i (f x) ≡ f x

@@ -8,22 +8,22 @@ use Rattle.table_model.specs.Identifier.{same_text}
 use Rattle.table_model.specs.Reading.{◌>>=◌}
 use Rattle.table_model.specs.declared.refusal.Refusal.{Refusal}
 use Rattle.table_model.specs.declared.refusal.Refusal.TheVariants.{Memory}
-use Rattle.folder_history.specs.Call.{Call, Read, Began}
-use Rattle.folder_history.specs.Disk.{Among}
-use Rattle.folder_history.specs.Parts.{Parts}
-use Rattle.folder_history.specs.Turn.{HasRead, HasReadSince, HasReadAll, Gave, listing_of}
+use Rattle.folder_model.specs.Call.{Call, Read, Began}
+use Rattle.folder_model.specs.Disk.{Among}
+use Rattle.folder_model.specs.Parts.{Parts}
+use Rattle.folder_model.specs.Turn.{HasRead, HasReadSince, HasReadAll, Gave, listing_of}
 use Rattle.replica_store.specs.Replica.{Replica}
-use Rattle.replica_reading.specs.Held.{held_in}
-use Rattle.replica_commands.specs.Commands.{merged_with}
-use Rattle.replica_commands.proofs.FileLaws.{bound_parts}
-use Rattle.folder_home.specs.Covers.{folder_home}
-use Rattle.folder_home.specs.Parts.{PartForm, IsWhole, AreWhole, IsFaultOf, IsPartRefusal, JoinsPart, OpensPart, OpensParts, StopsAt, bytes_of}
-use Rattle.folder_home.specs.PartName.{is_part_name, part_name}
-use Rattle.folder_home.specs.declared.fault.PartFault.{PartFault}
-use Rattle.folder_home.specs.declared.fault.PartFault.TheVariants.{Refused}
-use Rattle.folder_home.specs.declared.fault.PartRefusal.{PartRefusal}
-use Rattle.folder_home.proofs.JoinedSoFar.{bytes_more, merged_more, whole_more}
-use Rattle.folder_home.proofs.PartNames.{no_part}
+use Rattle.replica_reports.specs.Held.{held_in}
+use Rattle.replica_changes.specs.Commands.{merged_with}
+use Rattle.replica_changes.proofs.FileLaws.{bound_parts}
+use Rattle.folder_parts.specs.Covers.{folder_parts}
+use Rattle.folder_parts.specs.Parts.{PartForm, IsWhole, AreWhole, IsFaultOf, IsPartRefusal, JoinsPart, OpensPart, OpensParts, StopsAt, bytes_of}
+use Rattle.folder_parts.specs.PartName.{is_part_name, part_name}
+use Rattle.folder_parts.specs.declared.fault.PartFault.{PartFault}
+use Rattle.folder_parts.specs.declared.fault.PartFault.TheVariants.{Refused}
+use Rattle.folder_parts.specs.declared.fault.PartRefusal.{PartRefusal}
+use Rattle.folder_parts.proofs.JoinedSoFar.{bytes_more, merged_more, whole_more}
+use Rattle.folder_parts.proofs.PartNames.{no_part}
 use Rattle.folder_commands.specs.Joined.{AreOpened, AreRead, AreUnwanted, IsJoinedOf, IsReadAs, IsStopped}
 use Rattle.folder_commands.specs.ReadParts.{AreFound, AreReadSoFar, More, StopsReading, names_of}
 use Rattle.folder_commands.specs.Refusals.{IsPartAtFault}
@@ -152,8 +152,8 @@ since_read parts b (Read name (Some (Some found)) ∷ calls) (inr has) = inr (si
 since_read parts b (call ∷ calls) has = since_read parts b calls has
 
 -- whole parts that were read
-pub was_read : (P : List PartForm → Type 0) (many : ℕ) (names : List (List ℕ)) (before after : List Call) (read : AreReadSoFar P many names before after) → AreWhole read.parts → (part : PartForm) → Among part read.parts → HasRead folder_home part.bytes after
-was_read P many names before after read are part among = since_read folder_home part.bytes after (read.since part among (all_whole read.parts are part among))
+pub was_read : (P : List PartForm → Type 0) (many : ℕ) (names : List (List ℕ)) (before after : List Call) (read : AreReadSoFar P many names before after) → AreWhole read.parts → (part : PartForm) → Among part read.parts → HasRead folder_parts part.bytes after
+was_read P many names before after read are part among = since_read folder_parts part.bytes after (read.since part among (all_whole read.parts are part among))
 
 are_whole : (held : Option Replica) (parts : List PartForm) → IsJoinedOf held parts → AreWhole parts
 are_whole None parts none = subst AreWhole (sym none) tt
@@ -200,7 +200,7 @@ module _ (passed names : List (List ℕ)) (held : Option Replica) (Also : List P
             made = opens.1;
             read = λ file among.
                 let one = among_bytes (part ∷ others) file among in
-                subst (λ (f : List ℕ). HasRead folder_home f after) one.2 (was_read P many (filter (is_wanted passed) names) before after read are one.0 (subst (λ (l : List PartForm). Among one.0 l) (sym same) one.1));
+                subst (λ (f : List ℕ). HasRead folder_parts f after) one.2 (was_read P many (filter (is_wanted passed) names) before after read are one.0 (subst (λ (l : List PartForm). Among one.0 l) (sym same) one.1));
             each = λ name among wanted.
                 let one = under name among wanted in
                 let there : Among one.0 (part ∷ others) = subst (λ (l : List PartForm). Among one.0 l) same one.1 in
@@ -212,12 +212,12 @@ module _ (passed names : List (List ℕ)) (held : Option Replica) (Also : List P
   all_read = read_as
 
   -- if no name was passed over, all that was listed was read
-  pub all_listed : listing_of after ≡ Gave names → passed ≡ [] → HasReadAll folder_home after
+  pub all_listed : listing_of after ≡ Gave names → passed ≡ [] → HasReadAll folder_parts after
   all_listed listed none = record {
     names = names;
     listed = listed;
     each = λ bytes among.
-        elim (is_wanted passed (part_name bytes)) as (λ b. is_wanted passed (part_name bytes) ≡ b → (found : List ℕ) × (part_name found ≡ part_name bytes) × HasReadSince folder_home found after) [
+        elim (is_wanted passed (part_name bytes)) as (λ b. is_wanted passed (part_name bytes) ≡ b → (found : List ℕ) × (part_name found ≡ part_name bytes) × HasReadSince folder_parts found after) [
           | true ↦ λ wanted.
               let one = under (part_name bytes) among wanted in
               let whole = all_whole read.parts are one.0 one.1 in

@@ -3,17 +3,17 @@ use Rattle.std.specs.Prelude.{◌≡◌, ◌⊎◌, ℕ, ◌+◌, ◌<◌, Bool,
 use Rattle.std.proofs.Common.{refl, sym, ap, subst, ◌∙◌, arith, get_or, inl, inr, ⊎_elim, length-append}
 use Rattle.std.proofs.Math.Path.{transport}
 use Rattle.std.proofs.lemmas.List.{map-append, length-map}
-use Rattle.folder_history.specs.Call.{Call, Read}
-use Rattle.folder_history.specs.Disk.{Among}
-use Rattle.folder_history.specs.Turn.{HasReadSince}
+use Rattle.folder_model.specs.Call.{Call, Read}
+use Rattle.folder_model.specs.Disk.{Among}
+use Rattle.folder_model.specs.Turn.{HasReadSince}
 use Rattle.folder_protocol.specs.Causes.{HasCall}
 use Rattle.folder_protocol.specs.Keeping.{Finds}
 use Rattle.folder_protocol.specs.declared.taking.Untaken.{Untaken}
 use Rattle.folder_protocol.specs.declared.taking.Untaken.TheVariants.{Gone, Failed, Refused}
 use Rattle.folder_protocol.proofs.Causing.{Follows, has_now, has_later, has_before}
-use Rattle.folder_home.specs.Covers.{folder_home}
-use Rattle.folder_home.specs.Parts.{PartForm, IsWhole}
-use Rattle.folder_home.specs.declared.fault.PartRefusal.{PartRefusal}
+use Rattle.folder_parts.specs.Covers.{folder_parts}
+use Rattle.folder_parts.specs.Parts.{PartForm, IsWhole}
+use Rattle.folder_parts.specs.declared.fault.PartRefusal.{PartRefusal}
 use Rattle.folder_commands.specs.ReadParts.{AreFound, AreReadSoFar, IfRefused, More, ReadsOne, StopsReading, names_of}
 use Rattle.folder_commands.proofs.Going.{kept, kept_first, passed_over}
 
@@ -55,9 +55,9 @@ module _ (P Q : List PartForm → Type 0) (many : ℕ) (names : List (List ℕ))
       (λ is. subst (λ (p : PartForm). HasCall (Finds p.name p.bytes) before after) (sym is) (has_later (Finds name one.0) before mid after first (has_now (Finds name one.0) mid after (Read name (Some (Some one.0))) one.1 (refl, refl))))
       (among_end part read.parts newest among)
 
-  since : (part : PartForm) → Among part all → IsWhole part → HasReadSince folder_home part.bytes after
+  since : (part : PartForm) → Among part all → IsWhole part → HasReadSince folder_parts part.bytes after
   since part among whole =
-      subst (λ (l : List Call). HasReadSince folder_home part.bytes l) (sym one.1)
+      subst (λ (l : List Call). HasReadSince folder_parts part.bytes l) (sym one.1)
       (⊎_elim (λ a. inr (read.since part a whole)) (λ is. inl (ap (λ (p : PartForm). p.bytes) (sym is), ap (λ (p : PartForm). p.name) (sym is) ∙ whole)) (among_end part read.parts newest among))
 
   pub read_more : AreReadSoFar Q (many + 1) (names ++ name ∷ []) before after

@@ -3,10 +3,10 @@ use Rattle.std.specs.Prelude.{◌≡◌, ◌⊎◌, ℕ, List, ◌∷◌}
 use Rattle.std.proofs.Common.{ap, inl, inr}
 use Rattle.table_model.specs.declared.refusal.Refusal.{Refusal}
 use Rattle.table_model.specs.declared.refusal.Refusal.TheVariants.{Memory}
-use Rattle.folder_history.specs.Call.{Call}
+use Rattle.folder_model.specs.Call.{Call}
 use Rattle.folder_protocol.proofs.Causing.{Follows}
-use Rattle.folder_home.specs.declared.fault.PartFault.TheVariants.{Refused}
-use Rattle.folder_home.specs.declared.fault.PartRefusal.{PartRefusal}
+use Rattle.folder_parts.specs.declared.fault.PartFault.TheVariants.{Refused}
+use Rattle.folder_parts.specs.declared.fault.PartRefusal.{PartRefusal}
 use Rattle.folder_commands.specs.Joined.{WereGiven}
 use Rattle.folder_commands.specs.Refusals.{IsFolderRefused, IsPartAtFault, IsReadRefused, LacksMemory}
 use Rattle.folder_commands.proofs.ReadParts.{found_later}

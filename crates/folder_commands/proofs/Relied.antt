@@ -17,10 +17,10 @@ use Rattle.table_model.proofs.NameOrder.{row_names_total}
 use Rattle.catalogue_join.specs.RowRange.{RowRange, rows_in}
 use Rattle.segment_core.specs.Format.{AreBytes}
 use Rattle.part_skim.specs.Skimming.{FilesAreSkimmed, skim_in}
-use Rattle.folder_history.specs.Call.{Call, Read, Settled}
-use Rattle.folder_history.specs.Disk.{Among}
-use Rattle.folder_history.specs.Parts.{Parts}
-use Rattle.folder_history.specs.Turn.{HasRead, IsKept, IsStored}
+use Rattle.folder_model.specs.Call.{Call, Read, Settled}
+use Rattle.folder_model.specs.Disk.{Among}
+use Rattle.folder_model.specs.Parts.{Parts}
+use Rattle.folder_model.specs.Turn.{HasRead, IsKept, IsStored}
 use Rattle.folder_protocol.specs.Causes.{AnyIs, FindsNone, FindsOther, HasCall}
 use Rattle.folder_protocol.specs.Keeping.{AreKept, Finds, IsKeptOrGone}
 use Rattle.folder_protocol.specs.declared.putting.Outcome.{Outcome}
@@ -30,14 +30,14 @@ use Rattle.replica_store.specs.MergeLaws.{Merges}
 use Rattle.replica_store.specs.Replica.{Replica, merged, with_join}
 use Rattle.replica_store.proofs.MergeAnswers.{is_merge}
 use Rattle.replica_store.proofs.Names.{contains-names_of}
-use Rattle.replica_reading.specs.Held.{held_in}
-use Rattle.replica_commands.specs.Commands.{merged_with}
-use Rattle.replica_commands.specs.Loads.{is_one_of}
-use Rattle.replica_commands.proofs.FileLaws.{bound_parts, ok_one}
-use Rattle.folder_home.specs.Covers.{folder_home}
-use Rattle.folder_home.specs.PartName.{part_name}
-use Rattle.folder_home.specs.Parts.{PartForm, AreWhole, bytes_of}
-use Rattle.folder_home.proofs.EnoughOfParts.{not_among, skimmed_of}
+use Rattle.replica_reports.specs.Held.{held_in}
+use Rattle.replica_changes.specs.Commands.{merged_with}
+use Rattle.replica_changes.specs.Loads.{is_one_of}
+use Rattle.replica_changes.proofs.FileLaws.{bound_parts, ok_one}
+use Rattle.folder_parts.specs.Covers.{folder_parts}
+use Rattle.folder_parts.specs.PartName.{part_name}
+use Rattle.folder_parts.specs.Parts.{PartForm, AreWhole, bytes_of}
+use Rattle.folder_parts.proofs.EnoughOfParts.{not_among, skimmed_of}
 use Rattle.folder_commands.specs.Joined.{AreOpened, IsJoinedOf}
 use Rattle.folder_commands.specs.ReadParts.{AreReadSoFar, More}
 use Rattle.folder_commands.specs.Relying.{AreAllRelied, AreLeft, AreReadRelied, AreRelied, HasItem, IsBrought, IsIn, IsKeptOrMissed, IsLeft, IsNoneMet, Item, Rows, Deletion, ReliesOn}
@@ -143,7 +143,7 @@ of_files old (file ∷ files) new made item has =
 
 module _ (reliance : Reliance) (relied : List (List ℕ)) (held : Replica) (many : ℕ) (names : List (List ℕ)) (before after : List Call) (read : AreReadSoFar (λ parts. IsJoinedOf (Some held) parts × AreRelied reliance relied parts) many names before after) where
   -- a part that has it was read, and relied on
-  one_relied : AreWhole read.parts → (item : Item) → ReliesOn reliance item → (part : PartForm) → Among part read.parts → IsIn item part.bytes → (file : List ℕ) × IsIn item file × HasRead folder_home file after × Among (part_name file) relied
+  one_relied : AreWhole read.parts → (item : Item) → ReliesOn reliance item → (part : PartForm) → Among part read.parts → IsIn item part.bytes → (file : List ℕ) × IsIn item file × HasRead folder_parts file after × Among (part_name file) relied
   one_relied are item relies part among has = (
     part.bytes,
     has,
@@ -154,7 +154,7 @@ module _ (reliance : Reliance) (relied : List (List ℕ)) (held : Replica) (many
   pub all_relied : AreAllRelied reliance relied held after
   all_relied item has relies = by read.parts refl
     where
-      by : (parts : List PartForm) → read.parts ≡ parts → (file : List ℕ) × IsIn item file × HasRead folder_home file after × Among (part_name file) relied
+      by : (parts : List PartForm) → read.parts ≡ parts → (file : List ℕ) × IsIn item file × HasRead folder_parts file after × Among (part_name file) relied
       by [] same = absurd (subst (AreOpened held) same read.so.0)
       by (part ∷ others) same =
           let opens : AreOpened held (part ∷ others) = subst (AreOpened held) same read.so.0 in
@@ -207,20 +207,20 @@ finds_other name bytes part other (Read own (Some (Some found))) is = (is.0, fou
 finds_other name bytes part other call is = absurd is
 
 -- a part of a name that was to be kept
-kept_or_missed : (part : List ℕ) (before after : List Call) → IsKeptOrGone folder_home (part_name part) before after → IsKeptOrMissed part before after
+kept_or_missed : (part : List ℕ) (before after : List Call) → IsKeptOrGone folder_parts (part_name part) before after → IsKeptOrMissed part before after
 kept_or_missed part before after (inl none) = inr (inl none)
 kept_or_missed part before after (inr (bytes, (calls, is, any), kept)) =
     ⊎_elim
-    (λ same. inl (subst (λ (b : List ℕ). IsKept folder_home b after) same (kept (ap part_name (sym same)))))
+    (λ same. inl (subst (λ (b : List ℕ). IsKept folder_parts b after) same (kept (ap part_name (sym same)))))
     (λ other. inr (inr (calls, is, any_of (Finds (part_name part) bytes) (FindsOther (part_name part) part) (finds_other (part_name part) bytes part other) calls any)))
     (same_or_not bytes part)
 
 -- all that is brought is left
-pub are_left : (bytes : List ℕ) (relied : List (List ℕ)) (before after : List Call) → AreKept folder_home relied before after → IsStored folder_home bytes after → AreLeft bytes relied before after
+pub are_left : (bytes : List ℕ) (relied : List (List ℕ)) (before after : List Call) → AreKept folder_parts relied before after → IsStored folder_parts bytes after → AreLeft bytes relied before after
 are_left bytes relied before after kept stored item (inl own) = inl (own, stored)
 are_left bytes relied before after kept stored item (inr (part, has, among)) = inr (part, has, kept_or_missed part before after (kept (part_name part) among))
 
-pub all_left : {X E : Type 0} (r : Result X E) (on : X) (bytes : List ℕ) (relied : List (List ℕ)) (before after : List Call) → OnOk r (AreKept folder_home relied before after) → IfOk r (λ x. x ≡ on → IsStored folder_home bytes after)
+pub all_left : {X E : Type 0} (r : Result X E) (on : X) (bytes : List ℕ) (relied : List (List ℕ)) (before after : List Call) → OnOk r (AreKept folder_parts relied before after) → IfOk r (λ x. x ≡ on → IsStored folder_parts bytes after)
     → IfOk r (λ x. x ≡ on → AreLeft bytes relied before after)
 all_left (Ok x) on bytes relied before after kept stored = λ is. are_left bytes relied before after kept (stored is)
 all_left (Err e) on bytes relied before after kept stored = tt

@@ -4,23 +4,23 @@ use Rattle.std.proofs.Common.{refl, sym, ap, subst, ◌∙◌, inl, inr}
 use Rattle.std.proofs.lemmas.Bool.{and_parts}
 use Rattle.table_model.specs.Identifier.{same_text}
 use Rattle.table_model.proofs.SameTable.{itself_text}
-use Rattle.folder_history.specs.Call.{Call, Read}
-use Rattle.folder_history.specs.Disk.{Among}
-use Rattle.folder_history.specs.Parts.{Parts}
-use Rattle.folder_history.specs.Turn.{HasRead}
+use Rattle.folder_model.specs.Call.{Call, Read}
+use Rattle.folder_model.specs.Disk.{Among}
+use Rattle.folder_model.specs.Parts.{Parts}
+use Rattle.folder_model.specs.Turn.{HasRead}
 use Rattle.folder_protocol.specs.Goes.{GoesInTurn, AreJoined}
 use Rattle.folder_protocol.specs.declared.putting.Outcome.{Outcome}
 use Rattle.folder_protocol.specs.Causes.{Lacks, LookCause}
 use Rattle.folder_protocol.proofs.Causing.{Follows, has_later, look_later}
 use Rattle.folder_protocol.proofs.Lines.{removed_between}
 use Rattle.replica_store.specs.Replica.{Replica}
-use Rattle.replica_reading.specs.Held.{held_in}
-use Rattle.replica_commands.specs.Commands.{file_of, as_held}
-use Rattle.replica_commands.specs.Forgetting.{forgetting}
-use Rattle.folder_home.specs.Covers.{folder_home}
-use Rattle.folder_home.specs.FolderLaws.{IsOneOf}
-use Rattle.folder_home.specs.PartName.{part_name}
-use Rattle.folder_home.proofs.PartsCover.{cover_laws_hold}
+use Rattle.replica_reports.specs.Held.{held_in}
+use Rattle.replica_changes.specs.Commands.{file_of, as_held}
+use Rattle.replica_changes.specs.Forgetting.{forgetting}
+use Rattle.folder_parts.specs.Covers.{folder_parts}
+use Rattle.folder_parts.specs.FolderLaws.{IsOneOf}
+use Rattle.folder_parts.specs.PartName.{part_name}
+use Rattle.folder_parts.proofs.PartsCover.{cover_laws_hold}
 use Rattle.folder_commands.specs.Joined.{AreRead}
 use Rattle.folder_commands.specs.Replacing.{AreCoveredBy, Replaces}
 use Rattle.folder_commands.specs.Wanted.{is_wanted, goes}
@@ -40,7 +40,7 @@ among_filter p (y ∷ xs) x among =
 
 -- what is covered may go
 pub are_joined : (passed names : List (List ℕ)) (bytes name : List ℕ) (gone : List (List ℕ)) (calls : List Call) → name ≡ part_name bytes → gone ≡ filter (goes passed name) names
-    → AreCoveredBy passed names bytes calls → AreJoined folder_home bytes gone calls
+    → AreCoveredBy passed names bytes calls → AreJoined folder_parts bytes gone calls
 are_joined passed names bytes name gone calls named is covered other among =
     let kept = among_filter (goes passed name) names other (subst (λ (l : List (List ℕ)). Among other l) is among) in
     let both = and_parts (is_wanted passed other) (not (same_text other name)) kept.1 in
@@ -88,7 +88,7 @@ read_later passed names whole mid after more parts = record {
   first = parts.first;
   others = parts.others;
   made = parts.made;
-  read = λ file among. subst (λ (l : List Call). HasRead folder_home file l) (sym more.1) (has_read_later folder_home file more.0 mid (parts.read file among));
+  read = λ file among. subst (λ (l : List Call). HasRead folder_parts file l) (sym more.1) (has_read_later folder_parts file more.0 mid (parts.read file among));
   each = parts.each;
 }
 
@@ -98,7 +98,7 @@ looked_after None name bytes before mid after first cause = tt
 looked_after (Some how) name bytes before mid after first cause = look_later how name bytes before mid after first cause
 
 -- what was replaced was so after the calls before
-pub replaced_after : (passed names : List (List ℕ)) (bytes name : List ℕ) (gone : List (List ℕ)) (outcome : Option Outcome) (before mid after : List Call) → GoesInTurn folder_home before mid
+pub replaced_after : (passed names : List (List ℕ)) (bytes name : List ℕ) (gone : List (List ℕ)) (outcome : Option Outcome) (before mid after : List Call) → GoesInTurn folder_parts before mid
     → Replaces passed names bytes name gone outcome mid after → Replaces passed names bytes name gone outcome before after
 replaced_after passed names bytes name gone outcome before mid after first done = record {
   named = done.named;

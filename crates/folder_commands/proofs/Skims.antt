@@ -3,19 +3,19 @@ use Rattle.std.specs.Prelude.{◌≡◌, ℕ, suc, ◌+◌, ◌≤◌, Bool, tru
 use Rattle.std.proofs.Common.{refl, sym, ap, subst, ◌∙◌, arith, inl, inr, ⊎_elim, append_assoc}
 use Rattle.table_model.specs.declared.names.BatchName.{BatchName}
 use Rattle.table_model.specs.declared.refusal.Refusal.TheVariants.{Memory}
-use Rattle.folder_history.specs.Call.{Call}
-use Rattle.folder_history.specs.Disk.{Among}
-use Rattle.folder_history.specs.Turn.{Gave, listing_of}
+use Rattle.folder_model.specs.Call.{Call}
+use Rattle.folder_model.specs.Disk.{Among}
+use Rattle.folder_model.specs.Turn.{Gave, listing_of}
 use Rattle.folder_protocol.proofs.Causing.{Follows}
 use Rattle.replica_store.specs.Replica.{Replica, batch_limit, merged}
-use Rattle.replica_reading.specs.Held.{held_in}
-use Rattle.folder_home.specs.PartReads.{IsListed, is_refusal_of_part}
-use Rattle.folder_home.specs.Parts.{PartForm, IsWhole}
-use Rattle.folder_home.specs.Skims.{AnswersLoads, IsEnough, SkimsPart}
-use Rattle.folder_home.specs.declared.fault.PartFault.{PartFault}
-use Rattle.folder_home.specs.declared.fault.PartFault.TheVariants.{Refused}
-use Rattle.folder_home.specs.declared.fault.PartRefusal.{PartRefusal}
-use Rattle.folder_home.proofs.SkimmedSoFar.{opens_one, opens_more}
+use Rattle.replica_reports.specs.Held.{held_in}
+use Rattle.folder_parts.specs.PartReads.{IsListed, is_refusal_of_part}
+use Rattle.folder_parts.specs.Parts.{PartForm, IsWhole}
+use Rattle.folder_parts.specs.Skims.{AnswersLoads, IsEnough, SkimsPart}
+use Rattle.folder_parts.specs.declared.fault.PartFault.{PartFault}
+use Rattle.folder_parts.specs.declared.fault.PartFault.TheVariants.{Refused}
+use Rattle.folder_parts.specs.declared.fault.PartRefusal.{PartRefusal}
+use Rattle.folder_parts.proofs.SkimmedSoFar.{opens_one, opens_more}
 use Rattle.folder_commands.specs.Joined.{AreUnwanted, WereGiven}
 use Rattle.folder_commands.specs.ReadParts.{AreFound, AreReadSoFar, More, StopsReading, names_of}
 use Rattle.folder_commands.specs.Skims.{AreSkimmed, IsSkimOf, IsSkimRefused, SkimsRead}

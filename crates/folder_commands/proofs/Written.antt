@@ -2,9 +2,9 @@
 use Rattle.std.specs.Prelude.{◌≡◌, ℕ, Bool, true, false, List, [], ◌++◌, Some, Ok}
 use Rattle.std.proofs.Common.{sym, ap, ◌∙◌}
 use Rattle.replica_store.specs.Replica.{Replica}
-use Rattle.replica_reading.specs.Held.{held_in}
-use Rattle.replica_commands.specs.Commands.{Puts, file_of, as_held}
-use Rattle.folder_home.specs.PartsPut.{WritesPart}
+use Rattle.replica_reports.specs.Held.{held_in}
+use Rattle.replica_changes.specs.Commands.{Puts, file_of, as_held}
+use Rattle.folder_parts.specs.PartsPut.{WritesPart}
 
 -- these bytes are the file of a replica, which is read as it
 abbrev pub IsFileOf : List ℕ → Replica → Type 0

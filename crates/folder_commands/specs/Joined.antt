@@ -1,15 +1,15 @@
 -- What parts of a folder hold together, as they were read by noted calls.
 use Rattle.std.specs.Prelude.{◌≡◌, ℕ, true, List, [], ◌∷◌, ◌++◌, length, Option, Some, None, Ok}
-use Rattle.folder_history.specs.Call.{Call}
-use Rattle.folder_history.specs.Disk.{Among}
-use Rattle.folder_history.specs.Turn.{Gave, HasRead, listing_of}
+use Rattle.folder_model.specs.Call.{Call}
+use Rattle.folder_model.specs.Disk.{Among}
+use Rattle.folder_model.specs.Turn.{Gave, HasRead, listing_of}
 use Rattle.replica_store.specs.Replica.{Replica}
-use Rattle.replica_commands.specs.Commands.{merged_files}
-use Rattle.folder_home.specs.Covers.{folder_home}
-use Rattle.folder_home.specs.PartName.{part_name}
-use Rattle.folder_home.specs.Parts.{PartForm, IsPartRefusal, OpensParts}
-use Rattle.folder_home.specs.declared.fault.PartFault.{PartFault}
-use Rattle.folder_home.specs.declared.fault.PartRefusal.{PartRefusal}
+use Rattle.replica_changes.specs.Commands.{merged_files}
+use Rattle.folder_parts.specs.Covers.{folder_parts}
+use Rattle.folder_parts.specs.PartName.{part_name}
+use Rattle.folder_parts.specs.Parts.{PartForm, IsPartRefusal, OpensParts}
+use Rattle.folder_parts.specs.declared.fault.PartFault.{PartFault}
+use Rattle.folder_parts.specs.declared.fault.PartRefusal.{PartRefusal}
 use Rattle.folder_commands.specs.Wanted.{is_wanted}
 
 -- parts were opened, and this is their join
@@ -33,7 +33,7 @@ pub record AreRead (passed names : List (List ℕ)) (whole : Replica) (calls : L
   pub others : List (List ℕ)
   pub made : merged_files first others ≡ Ok whole
   -- each file was read, under the name of its bytes
-  pub read : (file : List ℕ) → Among file (first ∷ others) → HasRead folder_home file calls
+  pub read : (file : List ℕ) → Among file (first ∷ others) → HasRead folder_parts file calls
   -- and under each name that is wanted there is one
   pub each : (name : List ℕ) → Among name names → is_wanted passed name ≡ true → (file : List ℕ) × (name ≡ part_name file) × Among file (first ∷ others)
 

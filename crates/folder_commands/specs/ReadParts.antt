@@ -1,17 +1,17 @@
 -- The parts of a folder that were read by noted calls, one after another.
 use Rattle.std.specs.Prelude.{◌≡◌, ◌⊎◌, ℕ, suc, List, [], ◌∷◌, ◌++◌, length, map as each, Some, Result, Ok, Err}
 use Rattle.table_model.specs.declared.refusal.Refusal.TheVariants.{Memory}
-use Rattle.folder_history.specs.Call.{Call, Read}
-use Rattle.folder_history.specs.Disk.{Among}
-use Rattle.folder_history.specs.Turn.{HasReadSince}
+use Rattle.folder_model.specs.Call.{Call, Read}
+use Rattle.folder_model.specs.Disk.{Among}
+use Rattle.folder_model.specs.Turn.{HasReadSince}
 use Rattle.folder_protocol.specs.Causes.{HasCall}
 use Rattle.folder_protocol.specs.Keeping.{Finds}
 use Rattle.folder_protocol.specs.declared.taking.Untaken.{Untaken}
 use Rattle.folder_protocol.specs.declared.taking.Untaken.TheVariants.{Refused as Refuses}
-use Rattle.folder_home.specs.Covers.{folder_home}
-use Rattle.folder_home.specs.Parts.{PartForm, IsWhole}
-use Rattle.folder_home.specs.declared.fault.PartFault.TheVariants.{Refused}
-use Rattle.folder_home.specs.declared.fault.PartRefusal.{PartRefusal}
+use Rattle.folder_parts.specs.Covers.{folder_parts}
+use Rattle.folder_parts.specs.Parts.{PartForm, IsWhole}
+use Rattle.folder_parts.specs.declared.fault.PartFault.TheVariants.{Refused}
+use Rattle.folder_parts.specs.declared.fault.PartRefusal.{PartRefusal}
 
 -- if parts are refused, this is so of the refusal
 abbrev pub IfRefused : {E : Type 0} → Untaken E → (E → Type 0) → Type 0
@@ -49,7 +49,7 @@ pub record AreReadSoFar (P : List PartForm → Type 0) (many : ℕ) (names : Lis
   pub parts : List PartForm
   pub found : AreFound parts before after
   -- no listing has begun since
-  pub since : (part : PartForm) → Among part parts → IsWhole part → HasReadSince folder_home part.bytes after
+  pub since : (part : PartForm) → Among part parts → IsWhole part → HasReadSince folder_parts part.bytes after
   pub named : names_of parts ≡ names
   pub counted : length parts ≡ many
   pub so : P parts

@@ -1,10 +1,10 @@
 -- Why parts of a folder are refused that are read and joined.
 use Rattle.std.specs.Prelude.{◌≡◌, ◌⊎◌, ℕ, List, ◌∷◌, ◌++◌, filter, length}
 use Rattle.table_model.specs.declared.refusal.Refusal.TheVariants.{Memory}
-use Rattle.folder_history.specs.Call.{Call}
-use Rattle.folder_home.specs.Parts.{PartForm, IsPartRefusal}
-use Rattle.folder_home.specs.declared.fault.PartFault.TheVariants.{Refused}
-use Rattle.folder_home.specs.declared.fault.PartRefusal.{PartRefusal}
+use Rattle.folder_model.specs.Call.{Call}
+use Rattle.folder_parts.specs.Parts.{PartForm, IsPartRefusal}
+use Rattle.folder_parts.specs.declared.fault.PartFault.TheVariants.{Refused}
+use Rattle.folder_parts.specs.declared.fault.PartRefusal.{PartRefusal}
 use Rattle.folder_commands.specs.Joined.{WereGiven}
 use Rattle.folder_commands.specs.ReadParts.{names_of, AreFound}
 use Rattle.folder_commands.specs.Wanted.{is_wanted}

@@ -7,16 +7,16 @@ use Rattle.table_model.specs.Name.{row_name_cmp}
 use Rattle.table_model.specs.State.{Batch}
 use Rattle.table_model.specs.declared.names.BatchName.{BatchName}
 use Rattle.table_model.specs.declared.names.RowName.{RowName}
-use Rattle.folder_history.specs.Call.{Call}
-use Rattle.folder_history.specs.Disk.{Among}
-use Rattle.folder_history.specs.Turn.{HasRead, IsKept, IsStored}
+use Rattle.folder_model.specs.Call.{Call}
+use Rattle.folder_model.specs.Disk.{Among}
+use Rattle.folder_model.specs.Turn.{HasRead, IsKept, IsStored}
 use Rattle.folder_protocol.specs.Causes.{FindsNone, FindsOther, HasCall}
 use Rattle.replica_store.specs.Replica.{Replica}
-use Rattle.replica_commands.specs.Loads.{is_one_of}
-use Rattle.replica_reading.specs.Held.{held_in}
-use Rattle.folder_home.specs.Covers.{folder_home}
-use Rattle.folder_home.specs.PartName.{part_name}
-use Rattle.folder_home.specs.Parts.{PartForm}
+use Rattle.replica_changes.specs.Loads.{is_one_of}
+use Rattle.replica_reports.specs.Held.{held_in}
+use Rattle.folder_parts.specs.Covers.{folder_parts}
+use Rattle.folder_parts.specs.PartName.{part_name}
+use Rattle.folder_parts.specs.Parts.{PartForm}
 use Rattle.folder_commands.specs.declared.reliance.Reliance.{Reliance}
 use Rattle.folder_commands.specs.declared.reliance.Reliance.TheVariants.{Nothing, Batches, Load, Deletions}
 use Rattle.folder_commands.specs.ReadParts.{AreReadSoFar}
@@ -55,14 +55,14 @@ AreReadRelied reliance relied wanted before after = (many : ℕ) × AreReadSoFar
 -- Each thing on which a command relies, and that a replica has, is in a part that was read and whose name is among these.
 abbrev pub AreAllRelied : Reliance → List (List ℕ) → Replica → List Call → Type 0
 AreAllRelied reliance relied whole calls =
-    (item : Item) → HasItem whole item → ReliesOn reliance item → (part : List ℕ) × IsIn item part × HasRead folder_home part calls × Among (part_name part) relied
+    (item : Item) → HasItem whole item → ReliesOn reliance item → (part : List ℕ) × IsIn item part × HasRead folder_parts part calls × Among (part_name part) relied
 
 -- ---- what is kept
 
 -- The part with these bytes is kept; or, when it was to be kept, no file had its name, or one with other bytes.
 abbrev pub IsKeptOrMissed : List ℕ → List Call → List Call → Type 0
 IsKeptOrMissed part before after =
-    IsKept folder_home part after ⊎ HasCall (FindsNone (part_name part)) before after ⊎ HasCall (FindsOther (part_name part) part) before after
+    IsKept folder_parts part after ⊎ HasCall (FindsNone (part_name part)) before after ⊎ HasCall (FindsOther (part_name part) part) before after
 
 -- A new part with these bytes has it, or a part whose name is among these.
 abbrev pub IsBrought : Item → List ℕ → List (List ℕ) → Type 0
@@ -71,7 +71,7 @@ IsBrought item bytes relied = IsIn item bytes ⊎ ((part : List ℕ) × IsIn ite
 -- The new part has it, and is stored; or a part has it that is kept, or was gone or replaced when it was to be kept.
 abbrev pub IsLeft : Item → List ℕ → List Call → List Call → Type 0
 IsLeft item bytes before after =
-    (IsIn item bytes × IsStored folder_home bytes after) ⊎ ((part : List ℕ) × IsIn item part × IsKeptOrMissed part before after)
+    (IsIn item bytes × IsStored folder_parts bytes after) ⊎ ((part : List ℕ) × IsIn item part × IsKeptOrMissed part before after)
 
 -- Whatever a new part or a part of these names has is left so.
 abbrev pub AreLeft : List ℕ → List (List ℕ) → List Call → List Call → Type 0

@@ -1,25 +1,25 @@
 -- What a pack and a forget put in the place of the parts that they have read.
 use Rattle.std.specs.Prelude.{◌≡◌, ℕ, true, List, [], filter, Option, Some, None, Ok, IfSome}
-use Rattle.folder_history.specs.Call.{Call}
-use Rattle.folder_history.specs.Disk.{Among}
-use Rattle.folder_history.specs.Turn.{HasRead, IsStored}
+use Rattle.folder_model.specs.Call.{Call}
+use Rattle.folder_model.specs.Disk.{Among}
+use Rattle.folder_model.specs.Turn.{HasRead, IsStored}
 use Rattle.folder_protocol.specs.Causes.{Lacks, HasCall, LookCause}
 use Rattle.folder_protocol.specs.Goes.{AreRemoved}
 use Rattle.folder_protocol.specs.declared.putting.Outcome.{Outcome}
 use Rattle.folder_protocol.specs.declared.putting.Outcome.TheVariants.{OnDisk}
 use Rattle.replica_store.specs.Replica.{Replica}
-use Rattle.replica_reading.specs.Held.{held_in}
-use Rattle.replica_commands.specs.Commands.{file_of, as_held}
-use Rattle.replica_commands.specs.Forgetting.{forgetting}
-use Rattle.folder_home.specs.Covers.{covers, folder_home}
-use Rattle.folder_home.specs.PartName.{part_name}
+use Rattle.replica_reports.specs.Held.{held_in}
+use Rattle.replica_changes.specs.Commands.{file_of, as_held}
+use Rattle.replica_changes.specs.Forgetting.{forgetting}
+use Rattle.folder_parts.specs.Covers.{covers, folder_parts}
+use Rattle.folder_parts.specs.PartName.{part_name}
 use Rattle.folder_commands.specs.Joined.{AreRead}
 use Rattle.folder_commands.specs.Wanted.{is_wanted, goes}
 
 -- The parts of these names that are wanted were read by these calls, and these bytes cover them.
 abbrev pub AreCoveredBy : List (List ℕ) → List (List ℕ) → List ℕ → List Call → Type 0
 AreCoveredBy passed names bytes calls =
-    (name : List ℕ) → Among name names → is_wanted passed name ≡ true → (part : List ℕ) × (name ≡ part_name part) × HasRead folder_home part calls × (covers bytes part ≡ true)
+    (name : List ℕ) → Among name names → is_wanted passed name ≡ true → (part : List ℕ) × (name ≡ part_name part) × HasRead folder_parts part calls × (covers bytes part ≡ true)
 
 -- A part with these bytes was put in the place of those of these names: it has the name of its bytes; those that are wanted go, but for
 -- itself; and once it was on the disk, where it is stored, they were removed. If it is not on the disk, that has its cause; and if none was
@@ -28,7 +28,7 @@ pub record Replaces (passed names : List (List ℕ)) (bytes name : List ℕ) (go
   pub named : name ≡ part_name bytes
   pub going : gone ≡ filter (goes passed name) names
   pub removed : outcome ≡ Some OnDisk → AreRemoved gone before after
-  pub stored : outcome ≡ Some OnDisk → IsStored folder_home bytes after
+  pub stored : outcome ≡ Some OnDisk → IsStored folder_parts bytes after
   pub cause : IfSome outcome (λ how. LookCause how name bytes before after)
   pub overtaken : outcome ≡ None → HasCall (Lacks gone) before after
 

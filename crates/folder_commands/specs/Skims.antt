@@ -1,13 +1,13 @@
 -- What was read of a folder's parts for a load under given names, by noted calls.
 use Rattle.std.specs.Prelude.{◌≡◌, ℕ, List, [], ◌∷◌, ◌++◌, filter, Option, Some, None, Result, Ok, Err}
 use Rattle.table_model.specs.declared.names.BatchName.{BatchName}
-use Rattle.folder_history.specs.Call.{Call}
+use Rattle.folder_model.specs.Call.{Call}
 use Rattle.replica_store.specs.Replica.{Replica}
-use Rattle.folder_home.specs.PartReads.{IsListed, is_refusal_of_part}
-use Rattle.folder_home.specs.Parts.{PartForm, OpensParts}
-use Rattle.folder_home.specs.Skims.{SkimsPart, SkimsParts}
-use Rattle.folder_home.specs.declared.fault.PartFault.{PartFault}
-use Rattle.folder_home.specs.declared.fault.PartRefusal.{PartRefusal}
+use Rattle.folder_parts.specs.PartReads.{IsListed, is_refusal_of_part}
+use Rattle.folder_parts.specs.Parts.{PartForm, OpensParts}
+use Rattle.folder_parts.specs.Skims.{SkimsPart, SkimsParts}
+use Rattle.folder_parts.specs.declared.fault.PartFault.{PartFault}
+use Rattle.folder_parts.specs.declared.fault.PartRefusal.{PartRefusal}
 use Rattle.folder_commands.specs.Joined.{WereGiven}
 use Rattle.folder_commands.specs.ReadParts.{names_of, AreFound, AreReadUpTo}
 use Rattle.folder_commands.specs.Wanted.{is_wanted}

@@ -2,7 +2,7 @@
 use Rattle.std.specs.Prelude.{ℕ, Bool, not, ◌&&◌, List}
 use Rattle.std.specs.List.{list_any}
 use Rattle.table_model.specs.Identifier.{same_text}
-use Rattle.folder_home.specs.PartName.{is_part_name}
+use Rattle.folder_parts.specs.PartName.{is_part_name}
 
 -- whether the file of a name is read as a part: parts have such names, and it is not to be passed over
 unfoldable pub is_wanted : List (List ℕ) → List ℕ → Bool

@@ -1,16 +1,16 @@
 //! A forget: the parts of a folder are read and joined, and what is left of them without dead batches is put in their place.
 ghost use Rattle.std.specs.Prelude.{◌≡◌, ◌==◌, not, true, Ok, None, List, ℕ, map, string_bytes, IfOk, IfErr, IfSome, option_map};
-ghost use Rattle.folder_history.specs.Call.{lock_of};
+ghost use Rattle.folder_model.specs.Call.{lock_of};
 ghost use Rattle.table_model.specs.declared.refusal.Refusal.TheVariants.{Memory};
-ghost use Rattle.folder_history.specs.Parts.{IsNoPart};
+ghost use Rattle.folder_model.specs.Parts.{IsNoPart};
 ghost use Rattle.folder_protocol.specs.Goes.{GoesInTurn};
 ghost use Rattle.folder_protocol.specs.Taking.{UntakenCause};
 ghost use Rattle.folder_protocol.specs.Temporary.{is_temporary};
 ghost use Rattle.replica_store.specs.Replica.{Replica};
-ghost use Rattle.replica_reading.specs.Held.{held_in};
-ghost use Rattle.replica_commands.specs.Commands.{file_of, as_held};
-ghost use Rattle.replica_commands.specs.Forgetting.{forgetting};
-ghost use Rattle.folder_home.specs.Covers.{folder_home};
+ghost use Rattle.replica_reports.specs.Held.{held_in};
+ghost use Rattle.replica_changes.specs.Commands.{file_of, as_held};
+ghost use Rattle.replica_changes.specs.Forgetting.{forgetting};
+ghost use Rattle.folder_parts.specs.Covers.{folder_parts};
 ghost use Rattle.folder_commands.specs.Joined.{AreUnwanted, WereGiven};
 ghost use Rattle.folder_commands.specs.ReadParts.{IfRefused};
 ghost use Rattle.folder_commands.specs.Refusals.{IsFolderRefused};
@@ -19,7 +19,7 @@ ghost use Rattle.folder_commands.specs.Replacing.{IsForgot};
 use crate::reading::{Read, read_folder, refused};
 use crate::reliance::Reliance;
 use crate::replacing::{Replaced, replace_read};
-use folder_home::{PartRefusal, part_of_forget};
+use folder_parts::{PartRefusal, part_of_forget};
 use folder_protocol::{Folder, Untaken};
 use replica_store::{Forgotten, Store};
 use std::alloc::Global;
@@ -59,9 +59,9 @@ pub fn forget<F: Folder>(
     passed: &[String],
 ) -> Result<Option<Forgot>, Untaken<PartRefusal>>
     // Each call is in turn, whatever the folder answers.
-    ensures in_turn { IsNoPart folder_home temporary.now → GoesInTurn folder_home (F.history folder.old) (F.history folder.new) }
+    ensures in_turn { IsNoPart folder_parts temporary.now → GoesInTurn folder_parts (F.history folder.old) (F.history folder.new) }
     // So it is with the name of a temporary, which is no part's.
-    ensures in_turn_named { is_temporary temporary.now ≡ true → GoesInTurn folder_home (F.history folder.old) (F.history folder.new) }
+    ensures in_turn_named { is_temporary temporary.now ≡ true → GoesInTurn folder_parts (F.history folder.old) (F.history folder.new) }
     // What is put is what a forget leaves of the parts that were read, and these are removed.
     ensures forgot { IfOk result (λ answer. IfSome answer (λ f. IsForgot (map string_bytes passed.now) (map string_bytes f.names.items) (f.dropped.batches, f.dropped.rows) (option_map (λ done. (string_bytes done.name, map string_bytes done.gone.items, done.outcome)) f.replaced) (F.history folder.old) (F.history folder.new))) }
     // Its names are those that a listing gave.

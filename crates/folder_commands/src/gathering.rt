@@ -1,17 +1,17 @@
 //! What is made of the parts of a folder that are read one after another.
 ghost use Rattle.std.specs.Prelude.{◌≡◌, ℕ, List, [], map, filter, string_bytes, IfOk, IfErr};
-ghost use Rattle.folder_history.specs.Turn.{listing_of};
+ghost use Rattle.folder_model.specs.Turn.{listing_of};
 ghost use Rattle.folder_protocol.specs.Goes.{GoesInTurn};
 ghost use Rattle.folder_protocol.specs.Linking.{GoesPlainly};
 ghost use Rattle.folder_protocol.specs.Taking.{UntakenCause};
-ghost use Rattle.folder_home.specs.Covers.{folder_home};
-ghost use Rattle.folder_home.specs.Parts.{PartForm};
-ghost use Rattle.folder_home.specs.declared.fault.PartFault.{PartFault};
+ghost use Rattle.folder_parts.specs.Covers.{folder_parts};
+ghost use Rattle.folder_parts.specs.Parts.{PartForm};
+ghost use Rattle.folder_parts.specs.declared.fault.PartFault.{PartFault};
 ghost use Rattle.folder_commands.specs.ReadParts.{AreReadSoFar, IfRefused, More, ReadsOne, StopsReading};
 ghost use Rattle.folder_commands.specs.Wanted.{is_wanted};
 
 use crate::wanted::is_wanted;
-use folder_home::{PartFault, PartRefusal};
+use folder_parts::{PartFault, PartRefusal};
 use folder_protocol::{Folder, Untaken};
 use std::alloc::Global;
 
@@ -47,7 +47,7 @@ fn gather_one<F: Folder, G: Gathers>(
     place: usize,
     name: &str,
 ) -> Result<G, Untaken<PartRefusal>>
-    ensures in_turn { GoesInTurn folder_home (F.history folder.old) (F.history folder.new) }
+    ensures in_turn { GoesInTurn folder_parts (F.history folder.old) (F.history folder.new) }
     ensures listing { listing_of (F.history folder.new) ≡ listing_of (F.history folder.old) }
     ensures one { IfOk result (λ next. ReadsOne name.now (More (G.made_of way.now made) (G.made_of way.now next)) (F.history folder.old) (F.history folder.new)) }
     ensures refused { IfErr result (λ fault. IfRefused fault (λ refusal. (refusal.part ≡ place) × ReadsOne name.now (More (G.made_of way.now made) (G.stops way.now refusal.fault)) (F.history folder.old) (F.history folder.new))) }
@@ -73,7 +73,7 @@ pub(crate) fn gather_each<F: Folder, G: Gathers>(
     way: &G::Way,
     start: G,
 ) -> Result<G, Untaken<PartRefusal>>
-    ensures in_turn { GoesInTurn folder_home (F.history folder.old) (F.history folder.new) }
+    ensures in_turn { GoesInTurn folder_parts (F.history folder.old) (F.history folder.new) }
     ensures listing { listing_of (F.history folder.new) ≡ listing_of (F.history folder.old) }
     // Each part was read, and this is what is made of them.
     ensures read { G.made_of way.now start [] → IfOk result (λ made. (many : ℕ) × AreReadSoFar (G.made_of way.now made) many (filter (is_wanted (map string_bytes passed.now)) (map string_bytes listed.now)) (F.history folder.old) (F.history folder.new)) }

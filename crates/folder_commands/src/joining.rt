@@ -6,7 +6,7 @@ ghost use Rattle.folder_commands.specs.Relying.{AreRelied};
 
 use crate::gathering::Gathers;
 use crate::reliance::Reliance;
-use folder_home::{Join, PartFault};
+use folder_parts::{Join, PartFault};
 use std::alloc::Global;
 
 /// The join of the parts that were taken so far, if there are any, of which the bytes are not kept; and the names of those on which a

@@ -1,14 +1,14 @@
 //! A pack: parts are read and joined, and their join is put in their place.
 ghost use Rattle.std.specs.Prelude.{◌≡◌, [], true, Ok, None, map, string_bytes, IfOk, IfErr, IfSome};
-ghost use Rattle.folder_history.specs.Call.{lock_of};
+ghost use Rattle.folder_model.specs.Call.{lock_of};
 ghost use Rattle.table_model.specs.declared.refusal.Refusal.TheVariants.{Memory};
-ghost use Rattle.folder_history.specs.Parts.{IsNoPart};
+ghost use Rattle.folder_model.specs.Parts.{IsNoPart};
 ghost use Rattle.folder_protocol.specs.Goes.{GoesInTurn};
 ghost use Rattle.folder_protocol.specs.Taking.{UntakenCause};
 ghost use Rattle.folder_protocol.specs.Temporary.{is_temporary};
-ghost use Rattle.replica_reading.specs.Held.{held_in};
-ghost use Rattle.replica_commands.specs.Commands.{file_of, as_held};
-ghost use Rattle.folder_home.specs.Covers.{folder_home};
+ghost use Rattle.replica_reports.specs.Held.{held_in};
+ghost use Rattle.replica_changes.specs.Commands.{file_of, as_held};
+ghost use Rattle.folder_parts.specs.Covers.{folder_parts};
 ghost use Rattle.folder_commands.specs.Joined.{AreUnwanted};
 ghost use Rattle.folder_commands.specs.ReadParts.{IfRefused};
 ghost use Rattle.folder_commands.specs.Refusals.{IsReadRefused};
@@ -16,9 +16,9 @@ ghost use Rattle.folder_commands.specs.Replacing.{Packs};
 
 use crate::reading::{read_named, refused};
 use crate::replacing::{Replaced, replace_read};
-use folder_home::PartRefusal;
+use folder_parts::PartRefusal;
 use folder_protocol::{Folder, Untaken};
-use replica_commands::write_changed;
+use replica_changes::write_changed;
 use replica_store::Store;
 use std::alloc::Global;
 use table_model::{Counted, Refusal};
@@ -45,9 +45,9 @@ pub fn pack<F: Folder>(
     names: &[String],
 ) -> Result<Option<Replaced>, Untaken<PartRefusal>>
     // Each call is in turn, whatever the folder answers.
-    ensures in_turn { IsNoPart folder_home temporary.now → GoesInTurn folder_home (F.history folder.old) (F.history folder.new) }
+    ensures in_turn { IsNoPart folder_parts temporary.now → GoesInTurn folder_parts (F.history folder.old) (F.history folder.new) }
     // So it is with the name of a temporary, which is no part's.
-    ensures in_turn_named { is_temporary temporary.now ≡ true → GoesInTurn folder_home (F.history folder.old) (F.history folder.new) }
+    ensures in_turn_named { is_temporary temporary.now ≡ true → GoesInTurn folder_parts (F.history folder.old) (F.history folder.new) }
     // What is put is what the parts hold that were read, and these are removed.
     ensures packed { IfOk result (λ answer. IfSome answer (λ done. Packs (map string_bytes names.now) (string_bytes done.name) (map string_bytes done.gone.items) done.outcome (F.history folder.old) (F.history folder.new))) }
     // None if no name is a part's.

@@ -1,12 +1,12 @@
 //! The parts of a folder, read and joined.
 ghost use Rattle.std.specs.Prelude.{◌≡◌, List, ℕ, [], None, map, string_bytes, IfOk, IfErr, IfSome, OnOk, option_map};
 ghost use Rattle.column_file.specs.Files.{AreCanonicalOf};
-ghost use Rattle.folder_history.specs.Call.{lock_of};
-ghost use Rattle.folder_history.specs.Turn.{Gave, listing_of, HasReadAll};
+ghost use Rattle.folder_model.specs.Call.{lock_of};
+ghost use Rattle.folder_model.specs.Turn.{Gave, listing_of, HasReadAll};
 ghost use Rattle.folder_protocol.specs.Goes.{GoesInTurn};
 ghost use Rattle.folder_protocol.specs.Linking.{GoesPlainly};
 ghost use Rattle.folder_protocol.specs.Taking.{UntakenCause};
-ghost use Rattle.folder_home.specs.Covers.{folder_home};
+ghost use Rattle.folder_parts.specs.Covers.{folder_parts};
 ghost use Rattle.folder_commands.specs.Joined.{IsReadAs};
 ghost use Rattle.folder_commands.specs.ReadParts.{IfRefused};
 ghost use Rattle.folder_commands.specs.Refusals.{IsFolderRefused, IsReadRefused};
@@ -15,7 +15,7 @@ ghost use Rattle.folder_commands.specs.Relying.{AreAllRelied};
 use crate::gathering::gather_each;
 use crate::joining::Joining;
 use crate::reliance::Reliance;
-use folder_home::{PartFault, PartRefusal};
+use folder_parts::{PartFault, PartRefusal};
 use folder_protocol::{Folder, Untaken, list_names};
 use replica_store::Store;
 use std::alloc::Global;
@@ -46,12 +46,12 @@ fn join_named<F: Folder>(
     names: &[String],
     reliance: &Reliance,
 ) -> Result<Option<Joined>, Untaken<PartRefusal>>
-    ensures in_turn { GoesInTurn folder_home (F.history folder.old) (F.history folder.new) }
+    ensures in_turn { GoesInTurn folder_parts (F.history folder.old) (F.history folder.new) }
     ensures read { IfOk result (λ answer. IsReadAs (map string_bytes passed.now) (map string_bytes names.now) (option_map (λ joined. joined.store.replica) answer) (F.history folder.new)) }
     ensures segments { IfOk result (λ answer. IfSome answer (λ joined. AreCanonicalOf joined.store.replica.schema joined.store.replica.state.batches joined.store.segments)) }
     ensures relied { IfOk result (λ answer. IfSome answer (λ joined. AreAllRelied reliance.now (map string_bytes joined.relied.items) joined.store.replica (F.history folder.new))) }
     ensures listing { listing_of (F.history folder.new) ≡ listing_of (F.history folder.old) }
-    ensures since { (listed : List (List ℕ)) → listing_of (F.history folder.old) ≡ Gave listed → map string_bytes passed.now ≡ [] → listed ≡ map string_bytes names.now → OnOk result (HasReadAll folder_home (F.history folder.new)) }
+    ensures since { (listed : List (List ℕ)) → listing_of (F.history folder.old) ≡ Gave listed → map string_bytes passed.now ≡ [] → listed ≡ map string_bytes names.now → OnOk result (HasReadAll folder_parts (F.history folder.new)) }
     ensures refused { IfErr result (λ fault. IfRefused fault (λ refusal. IsReadRefused refusal (map string_bytes passed.now) (map string_bytes names.now) (F.history folder.old) (F.history folder.new))) }
     ensures cause { IfErr result (λ fault. UntakenCause fault (F.history folder.old) (F.history folder.new)) }
     ensures plain { GoesPlainly (F.history folder.old) (F.history folder.new) }
@@ -81,7 +81,7 @@ pub fn read_named<F: Folder>(
     names: &[String],
 ) -> Result<Option<Store>, Untaken<PartRefusal>>
     // Each call is in turn.
-    ensures in_turn { GoesInTurn folder_home (F.history folder.old) (F.history folder.new) }
+    ensures in_turn { GoesInTurn folder_parts (F.history folder.old) (F.history folder.new) }
     // Each part was read by these calls, and what is answered is their join.
     ensures read { IfOk result (λ answer. IsReadAs (map string_bytes passed.now) (map string_bytes names.now) (option_map (λ store. store.replica) answer) (F.history folder.new)) }
     // Its segments are canonical.
@@ -89,7 +89,7 @@ pub fn read_named<F: Folder>(
     // The last listing is as it was.
     ensures listing { listing_of (F.history folder.new) ≡ listing_of (F.history folder.old) }
     // If it gave these names and none is to be passed over, all that it gave was read.
-    ensures since { (listed : List (List ℕ)) → listing_of (F.history folder.old) ≡ Gave listed → map string_bytes passed.now ≡ [] → listed ≡ map string_bytes names.now → OnOk result (HasReadAll folder_home (F.history folder.new)) }
+    ensures since { (listed : List (List ℕ)) → listing_of (F.history folder.old) ≡ Gave listed → map string_bytes passed.now ≡ [] → listed ≡ map string_bytes names.now → OnOk result (HasReadAll folder_parts (F.history folder.new)) }
     // A part that is refused is at fault, or memory ran out.
     ensures refused { IfErr result (λ fault. IfRefused fault (λ refusal. IsReadRefused refusal (map string_bytes passed.now) (map string_bytes names.now) (F.history folder.old) (F.history folder.new))) }
     // That they were not all read has its cause.
@@ -124,7 +124,7 @@ pub fn read_folder<F: Folder>(
     reliance: &Reliance,
 ) -> Result<Read, Untaken<PartRefusal>>
     // Each call is in turn.
-    ensures in_turn { GoesInTurn folder_home (F.history folder.old) (F.history folder.new) }
+    ensures in_turn { GoesInTurn folder_parts (F.history folder.old) (F.history folder.new) }
     // These are the names that the last listing gave.
     ensures listed { IfOk result (λ read. listing_of (F.history folder.new) ≡ Gave (map string_bytes read.names.items)) }
     // Each part was read by these calls, and what is answered is their join.
@@ -134,7 +134,7 @@ pub fn read_folder<F: Folder>(
     // Each thing that it has and on which the command relies is in a part whose name is told.
     ensures relied { IfOk result (λ read. IfSome read.held (λ store. AreAllRelied reliance.now (map string_bytes read.relied.items) store.replica (F.history folder.new))) }
     // If no name was passed over, all that a listing under the lock gave was read.
-    ensures all { map string_bytes passed.now ≡ [] → OnOk result (HasReadAll folder_home (F.history folder.new)) }
+    ensures all { map string_bytes passed.now ≡ [] → OnOk result (HasReadAll folder_parts (F.history folder.new)) }
     // A part that is refused is at fault, or memory ran out.
     ensures refused { IfErr result (λ fault. IfRefused fault (λ refusal. IsFolderRefused refusal (map string_bytes passed.now) (F.history folder.old) (F.history folder.new))) }
     // That they were not all read has its cause.

@@ -8,7 +8,7 @@ ghost use Rattle.folder_commands.specs.ReadParts.{More};
 ghost use Rattle.folder_commands.specs.Relying.{AreRelied, IsIn, IsNoneMet, Item, ReliesOn};
 
 use catalogue_join::Held;
-use folder_home::LoadNames;
+use folder_parts::LoadNames;
 use part_skim::{Skimmed, skim};
 use std::alloc::Global;
 use table_model::{BatchName, Refusal};

@@ -1,11 +1,11 @@
 //! How a part is put in the place of those that were read to make it.
 ghost use Rattle.std.specs.Prelude.{◌≡◌, None, map, filter, string_bytes, IfOk, IfErr};
-ghost use Rattle.folder_history.specs.Call.{lock_of};
-ghost use Rattle.folder_history.specs.Parts.{IsNoPart};
+ghost use Rattle.folder_model.specs.Call.{lock_of};
+ghost use Rattle.folder_model.specs.Parts.{IsNoPart};
 ghost use Rattle.folder_protocol.specs.Goes.{GoesInTurn};
 ghost use Rattle.folder_protocol.specs.Taking.{UntakenCause};
-ghost use Rattle.folder_home.specs.Covers.{folder_home};
-ghost use Rattle.folder_home.specs.PartName.{part_name};
+ghost use Rattle.folder_parts.specs.Covers.{folder_parts};
+ghost use Rattle.folder_parts.specs.PartName.{part_name};
 ghost use Rattle.folder_commands.specs.ReadParts.{IfRefused};
 ghost use Rattle.folder_commands.specs.Refusals.{LacksMemory};
 ghost use Rattle.folder_commands.specs.Replacing.{AreCoveredBy, Replaces};
@@ -13,7 +13,7 @@ ghost use Rattle.folder_commands.specs.Wanted.{goes};
 
 use crate::reading::refused;
 use crate::wanted::going;
-use folder_home::{PartRefusal, part_name};
+use folder_parts::{PartRefusal, part_name};
 use folder_protocol::{self, Folder, Outcome, Untaken};
 use std::alloc::{AllocError, Global};
 use table_model::Refusal;
@@ -55,7 +55,7 @@ pub(crate) fn replace_read<F: Folder>(
     bytes: &[u8],
 ) -> Result<Replaced, Untaken<PartRefusal>>
     // Each call is in turn.
-    ensures in_turn { IsNoPart folder_home temporary.now → AreCoveredBy (map string_bytes passed.now) (map string_bytes names.now) bytes.now (F.history folder.old) → GoesInTurn folder_home (F.history folder.old) (F.history folder.new) }
+    ensures in_turn { IsNoPart folder_parts temporary.now → AreCoveredBy (map string_bytes passed.now) (map string_bytes names.now) bytes.now (F.history folder.old) → GoesInTurn folder_parts (F.history folder.old) (F.history folder.new) }
     // The part is named by its bytes, and those that are wanted go, but for itself.
     ensures replaces { IfOk result (λ done. Replaces (map string_bytes passed.now) (map string_bytes names.now) bytes.now (string_bytes done.name) (map string_bytes done.gone.items) done.outcome (F.history folder.old) (F.history folder.new)) }
     ensures refused { IfErr result (λ fault. IfRefused fault LacksMemory) }

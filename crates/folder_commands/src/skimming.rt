@@ -1,10 +1,10 @@
 //! What of a folder's parts is read for a load under given names.
 ghost use Rattle.std.specs.Prelude.{◌≡◌, List, ℕ, Ok, Err, Some, None, map, filter, string_bytes, IfOk, IfErr, IfSome};
-ghost use Rattle.folder_history.specs.Turn.{Gave, listing_of};
+ghost use Rattle.folder_model.specs.Turn.{Gave, listing_of};
 ghost use Rattle.folder_protocol.specs.Goes.{GoesInTurn};
 ghost use Rattle.folder_protocol.specs.Taking.{UntakenCause};
-ghost use Rattle.folder_home.specs.Covers.{folder_home};
-ghost use Rattle.folder_home.specs.PartReads.{IsListed, is_refusal_of_part};
+ghost use Rattle.folder_parts.specs.Covers.{folder_parts};
+ghost use Rattle.folder_parts.specs.PartReads.{IsListed, is_refusal_of_part};
 ghost use Rattle.folder_commands.specs.Joined.{AreUnwanted, WereGiven};
 ghost use Rattle.folder_commands.specs.ReadParts.{IfRefused, More};
 ghost use Rattle.folder_commands.specs.Relying.{AreReadRelied, AreRelied};
@@ -15,7 +15,7 @@ ghost use Rattle.folder_commands.specs.Wanted.{is_wanted};
 use crate::gathering::{Gathers, gather_each};
 use crate::reading::refused;
 use crate::reliance::Reliance;
-use folder_home::{LoadNames, PartFault, PartRefusal, Skim, SkimmedParts};
+use folder_parts::{LoadNames, PartFault, PartRefusal, Skim, SkimmedParts};
 use folder_protocol::{Folder, Untaken, list_names};
 use std::alloc::Global;
 
@@ -88,7 +88,7 @@ fn skim_named<F: Folder>(
     listed: &[String],
     names: LoadNames,
 ) -> Result<Option<(SkimmedParts, Vec<String>)>, Untaken<PartRefusal>>
-    ensures in_turn { GoesInTurn folder_home (F.history folder.old) (F.history folder.new) }
+    ensures in_turn { GoesInTurn folder_parts (F.history folder.old) (F.history folder.new) }
     ensures listing { listing_of (F.history folder.new) ≡ listing_of (F.history folder.old) }
     ensures answers { IfOk result (λ answer. IfSome answer (λ both. AreSkimmed (λ p. p.held.replica) (λ p. p.batches) (Ok both.0) (map string_bytes passed.now) (map string_bytes listed.now) names.first names.count (F.history folder.old) (F.history folder.new))) }
     ensures relied { IfOk result (λ answer. IfSome answer (λ both. AreReadRelied (Load names) (map string_bytes both.1.items) (filter (is_wanted (map string_bytes passed.now)) (map string_bytes listed.now)) (F.history folder.old) (F.history folder.new))) }
@@ -129,7 +129,7 @@ pub fn skim_folder<F: Folder>(
     names: LoadNames,
 ) -> Result<Option<Skimmed>, Untaken<PartRefusal>>
     // Each call is in turn.
-    ensures in_turn { GoesInTurn folder_home (F.history folder.old) (F.history folder.new) }
+    ensures in_turn { GoesInTurn folder_parts (F.history folder.old) (F.history folder.new) }
     // Its names are those that a listing gave.
     ensures listed { IfOk result (λ answer. IfSome answer (λ s. WereGiven (map string_bytes s.names.items) (F.history folder.old) (F.history folder.new))) }
     // Each part that is wanted was read, and if these are whole, loads are answered as from all of them.

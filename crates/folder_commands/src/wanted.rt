@@ -4,7 +4,7 @@ ghost use Rattle.std.specs.List.{list_any};
 ghost use Rattle.table_model.specs.Identifier.{same_text};
 ghost use Rattle.folder_commands.specs.Wanted.{is_wanted, goes};
 
-use folder_home::is_part_name;
+use folder_parts::is_part_name;
 use std::alloc::{AllocError, Global};
 use table_model::same_text;
 

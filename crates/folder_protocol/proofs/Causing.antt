@@ -2,9 +2,9 @@
 use Rattle.std.proofs.Common.{◌≡◌, inl, inr, ℕ, Bool, true, false, ◌||◌, map, Result, Ok, Err, IfOk, IfSome, OnErr, Option, Some, None, List, [], ◌∷◌, ◌++◌, length, take, refl, sym, ◌∙◌, ap, append_assoc, arith}
 use Rattle.std.specs.List.{list_any}
 use Rattle.std.specs.Result.{is_ok}
-use Rattle.folder_history.specs.Call.{Call, Synced, Taken}
-use Rattle.folder_history.specs.Disk.{Among}
-use Rattle.folder_history.specs.Parts.{Parts, IsNoPart}
+use Rattle.folder_model.specs.Call.{Call, Synced, Taken}
+use Rattle.folder_model.specs.Disk.{Among}
+use Rattle.folder_model.specs.Parts.{Parts, IsNoPart}
 use Rattle.folder_protocol.specs.Causes.{Fails, AnyIs, HasCall, AnswersLink, LookCause, IsNamed}
 use Rattle.folder_protocol.specs.declared.putting.Outcome.{Outcome}
 use Rattle.folder_protocol.specs.declared.putting.Outcome.TheVariants.{OnDisk, Unsynced, Gone, Damaged}

@@ -5,10 +5,10 @@ use Rattle.std.specs.Str.{bytes_eq}
 use Rattle.std.proofs.Common.{refl, sym, ap, subst, ◌∙◌, inl, inr, ◌≢◌, ◌⊎◌, ⊎_elim, true, false, ℕ, Bool, None, Some, Ok, Err, Result, List, [], ◌∷◌, ◌++◌}
 use Rattle.std.proofs.lemmas.Slice.Eq.{bytes_eq-Decides}
 use Rattle.std.proofs.lemmas.Bool.{cases_Bool}
-use Rattle.folder_history.specs.Call.{Call, Read, Synced, Settled}
-use Rattle.folder_history.specs.Disk.{Among}
-use Rattle.folder_history.specs.Parts.{Parts}
-use Rattle.folder_history.specs.Turn.{Idle, Seen, Whole, synced, HasRead, WasSynced, IsKept, HasMissed, IsGone}
+use Rattle.folder_model.specs.Call.{Call, Read, Synced, Settled}
+use Rattle.folder_model.specs.Disk.{Among}
+use Rattle.folder_model.specs.Parts.{Parts}
+use Rattle.folder_model.specs.Turn.{Idle, Seen, Whole, synced, HasRead, WasSynced, IsKept, HasMissed, IsGone}
 use Rattle.folder_protocol.specs.Causes.{FindsNone, Fails, HasCall}
 use Rattle.folder_protocol.proofs.Causing.{Follows, follows_none, follows_on, has_now, has_later, has_before}
 use Rattle.folder_protocol.specs.Keeping.{Finds, IsSyncedOrGone, IsKeptOrGone, IsSyncedOrMissed}

@@ -1,10 +1,10 @@
 -- How calls lead on that give files names.
 use Rattle.std.proofs.Common.{◌≡◌, MatchResult, ◌⊎◌, inl, inr, ⊎_elim, map, ◌||◌, ℕ, Bool, true, false, Result, Ok, Err, IfOk, IfSome, Option, Some, None, List, [], ◌∷◌, ◌++◌, refl, sym, ◌∙◌, ap, subst, append_assoc}
-use Rattle.folder_history.specs.Call.{Call, Kind, Shared, Exclusive, Made, Wrote, Synced, Linked, Removed, Settled, Locked, Unlocked, Began, Listed, Read, Looked, lock_of}
-use Rattle.folder_history.specs.Turn.{Stage, Guarded, settled, unguarded, stage_of, IsStored, HasWatched, listing_of, IsAlone}
+use Rattle.folder_model.specs.Call.{Call, Kind, Shared, Exclusive, Made, Wrote, Synced, Linked, Removed, Settled, Locked, Unlocked, Began, Listed, Read, Looked, lock_of}
+use Rattle.folder_model.specs.Turn.{Stage, Guarded, settled, unguarded, stage_of, IsStored, HasWatched, listing_of, IsAlone}
 use Rattle.std.specs.List.{list_any}
-use Rattle.folder_history.specs.Disk.{Among}
-use Rattle.folder_history.specs.Parts.{Parts}
+use Rattle.folder_model.specs.Disk.{Among}
+use Rattle.folder_model.specs.Parts.{Parts}
 use Rattle.folder_protocol.specs.declared.putting.Outcome.{Outcome}
 use Rattle.folder_protocol.specs.declared.putting.Outcome.TheVariants.{OnDisk}
 use Rattle.folder_protocol.specs.Linking.{IsPlain, ArePlain, GoesPlainly, LinksAfter, EachLinksAfter, LinksOnly, LinksNone, WasSo}

@@ -1,9 +1,9 @@
 -- What the clauses of a put say to the laws: each file that was given its name under the lock was placed as the laws ask.
 use Rattle.std.proofs.Common.{◌≡◌, inl, inr, ℕ, List, [], ◌∷◌, ◌++◌, sym, ◌∙◌, subst}
 use Rattle.std.proofs.lemmas.List.{append_cancel_right}
-use Rattle.folder_history.specs.Call.{Call, Linked, Linking, Done}
-use Rattle.folder_history.specs.Parts.{Parts}
-use Rattle.folder_history.specs.Turn.{InTurn, AllInTurn, HasPlaced}
+use Rattle.folder_model.specs.Call.{Call, Linked, Linking, Done}
+use Rattle.folder_model.specs.Parts.{Parts}
+use Rattle.folder_model.specs.Turn.{InTurn, AllInTurn, HasPlaced}
 use Rattle.folder_protocol.specs.Causes.{AnyIs, HasCall, AnswersLink}
 use Rattle.folder_protocol.specs.Goes.{GoesInTurn}
 use Rattle.folder_protocol.specs.Linking.{LinksAfter, EachLinksAfter, LinksOnly, Watches}

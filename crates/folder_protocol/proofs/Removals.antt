@@ -1,6 +1,6 @@
 -- How calls lead on that remove names.
 use Rattle.std.proofs.Common.{◌≡◌, MatchResult, ℕ, Result, Ok, Err, Option, Some, None, List, [], ◌∷◌, ◌++◌, refl, sym, ◌∙◌, ap, append_assoc}
-use Rattle.folder_history.specs.Call.{Call, Made, Wrote, Synced, Linked, Removed, Settled, Locked, Unlocked, Began, Listed, Read, Looked}
+use Rattle.folder_model.specs.Call.{Call, Made, Wrote, Synced, Linked, Removed, Settled, Locked, Unlocked, Began, Listed, Read, Looked}
 use Rattle.folder_protocol.specs.Sweeping.{RemovesSuch, EachRemovesSuch, RemovesOnly}
 
 module _ (P : List ℕ → Type 0) where

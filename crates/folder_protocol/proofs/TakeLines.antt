@@ -1,9 +1,9 @@
 -- How what is taken leads on.
 use Rattle.std.proofs.Common.{◌≡◌, ◌⊎◌, inl, inr, ⊎_elim, ℕ, true, Result, Ok, Err, OnOk, IfOk, Option, Some, List, ◌∷◌, ap, sym, ◌∙◌, subst}
-use Rattle.folder_history.specs.Call.{Call, Unlocked, Read}
-use Rattle.folder_history.specs.Disk.{Among}
-use Rattle.folder_history.specs.Parts.{Parts, IsNoPart}
-use Rattle.folder_history.specs.Turn.{Gave, Stage, Stored, Guarded, IsStored, stage_of, unguarded, listing_of, HasReadSince}
+use Rattle.folder_model.specs.Call.{Call, Unlocked, Read}
+use Rattle.folder_model.specs.Disk.{Among}
+use Rattle.folder_model.specs.Parts.{Parts, IsNoPart}
+use Rattle.folder_model.specs.Turn.{Gave, Stage, Stored, Guarded, IsStored, stage_of, unguarded, listing_of, HasReadSince}
 use Rattle.folder_protocol.specs.Reads.{KeepsRead, HasFound}
 use Rattle.folder_protocol.specs.Taking.{IsTaken, AreReadSince, UntakenCause}
 use Rattle.folder_protocol.specs.declared.putting.Outcome.{Outcome}

@@ -1,9 +1,9 @@
 -- How far calls of the protocol lead.
 use Rattle.std.specs.Prelude.{◌≡◌, ◌≢◌, ◌⊎◌, ℕ, true, List, ◌++◌, ◌∷◌, []}
-use Rattle.folder_history.specs.Call.{Call, Removed}
-use Rattle.folder_history.specs.Disk.{Among}
-use Rattle.folder_history.specs.Parts.{Parts}
-use Rattle.folder_history.specs.Turn.{HasRead, AllInTurn}
+use Rattle.folder_model.specs.Call.{Call, Removed}
+use Rattle.folder_model.specs.Disk.{Among}
+use Rattle.folder_model.specs.Parts.{Parts}
+use Rattle.folder_model.specs.Turn.{HasRead, AllInTurn}
 
 -- Calls were made between two histories, each in turn if those before were.
 abbrev pub GoesInTurn : Parts → List Call → List Call → Type 0

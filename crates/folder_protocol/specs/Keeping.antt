@@ -1,9 +1,9 @@
 -- Parts that are had on the disk since a command relies on them.
 use Rattle.std.specs.Prelude.{◌≡◌, ◌⊎◌, ℕ, List, Some}
-use Rattle.folder_history.specs.Call.{Call, Read}
-use Rattle.folder_history.specs.Disk.{Among}
-use Rattle.folder_history.specs.Parts.{Parts}
-use Rattle.folder_history.specs.Turn.{HasRead, WasSynced, IsKept, HasMissed, IsGone}
+use Rattle.folder_model.specs.Call.{Call, Read}
+use Rattle.folder_model.specs.Disk.{Among}
+use Rattle.folder_model.specs.Parts.{Parts}
+use Rattle.folder_model.specs.Turn.{HasRead, WasSynced, IsKept, HasMissed, IsGone}
 use Rattle.folder_protocol.specs.Causes.{FindsNone, HasCall}
 
 -- the file of this name had these bytes

@@ -1,8 +1,8 @@
 -- Among which calls a file is given its name.
 use Rattle.std.specs.Prelude.{◌≡◌, ℕ, List, [], ◌∷◌, ◌++◌}
-use Rattle.folder_history.specs.Call.{Call, Linked, Locked, Unlocked, Began, Listed}
-use Rattle.folder_history.specs.Disk.{Among}
-use Rattle.folder_history.specs.Turn.{HasWatched}
+use Rattle.folder_model.specs.Call.{Call, Linked, Locked, Unlocked, Began, Listed}
+use Rattle.folder_model.specs.Disk.{Among}
+use Rattle.folder_model.specs.Turn.{HasWatched}
 
 -- The call gives no file a name, changes no lock, and lists nothing.
 abbrev pub IsPlain : Call → Type 0

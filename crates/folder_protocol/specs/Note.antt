@@ -1,6 +1,6 @@
 -- How a call is noted: by numbers, of which the first says which call, the second whether it succeeded and the third what it gave; by its texts; and by the names that a listing gave.
 use Rattle.std.specs.Prelude.{ℕ, Bool, true, false, List, ◌==◌, map, take, slice_index, Option, Some, None, if◌then◌else◌}
-use Rattle.folder_history.specs.Call.{Call, Kind, Shared, Exclusive, Linking, Done, Taken, Failed, Made, Wrote, Synced, Linked, Removed, Settled, Locked, Unlocked, Began, Listed, Read, Looked}
+use Rattle.folder_model.specs.Call.{Call, Kind, Shared, Exclusive, Linking, Done, Taken, Failed, Made, Wrote, Synced, Linked, Removed, Settled, Locked, Unlocked, Began, Listed, Read, Looked}
 
 -- a call as it is noted: its numbers, its texts, and its names
 abbrev pub Noted : Type 0

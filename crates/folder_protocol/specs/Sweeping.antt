@@ -1,8 +1,8 @@
 -- What a sweep has done.
 use Rattle.std.specs.Prelude.{◌≡◌, ℕ, true, List, [], ◌∷◌, ◌++◌}
-use Rattle.folder_history.specs.Call.{Call, Removed}
-use Rattle.folder_history.specs.Disk.{Among}
-use Rattle.folder_history.specs.Turn.{Gave, listing_of}
+use Rattle.folder_model.specs.Call.{Call, Removed}
+use Rattle.folder_model.specs.Disk.{Among}
+use Rattle.folder_model.specs.Turn.{Gave, listing_of}
 use Rattle.folder_protocol.specs.Causes.{HasCall}
 use Rattle.folder_protocol.specs.Temporary.{is_temporary}
 

@@ -1,9 +1,9 @@
 -- What is taken of the parts of a folder, and why not all are.
 use Rattle.std.specs.Prelude.{◌≡◌, ◌⊎◌, ℕ, List, [], ◌∷◌, Some}
-use Rattle.folder_history.specs.Call.{Call, Read}
-use Rattle.folder_history.specs.Disk.{Among}
-use Rattle.folder_history.specs.Parts.{Parts}
-use Rattle.folder_history.specs.Turn.{HasReadSince}
+use Rattle.folder_model.specs.Call.{Call, Read}
+use Rattle.folder_model.specs.Disk.{Among}
+use Rattle.folder_model.specs.Parts.{Parts}
+use Rattle.folder_model.specs.Turn.{HasReadSince}
 use Rattle.folder_protocol.specs.Causes.{Fails, FindsNone, HasCall}
 use Rattle.folder_protocol.specs.declared.taking.Untaken.{Untaken}
 use Rattle.folder_protocol.specs.declared.taking.Untaken.TheVariants.{Gone, Failed, Refused}

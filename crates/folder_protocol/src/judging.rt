@@ -1,10 +1,10 @@
 //! How a part is put that is to go with all that are there.
 ghost use Rattle.std.specs.Prelude.{◌≡◌, ◌++◌, List, ℕ, true, false, Some, None, map, IfOk, IfSome, OnErr};
 ghost use Rattle.std.specs.String.{string_bytes};
-ghost use Rattle.folder_history.specs.Call.{Call, Exclusive, lock_of};
-ghost use Rattle.folder_history.specs.Disk.{Among};
-ghost use Rattle.folder_history.specs.Parts.{Parts, IsNoPart};
-ghost use Rattle.folder_history.specs.Turn.{Ready, IsStored, stage_of};
+ghost use Rattle.folder_model.specs.Call.{Call, Exclusive, lock_of};
+ghost use Rattle.folder_model.specs.Disk.{Among};
+ghost use Rattle.folder_model.specs.Parts.{Parts, IsNoPart};
+ghost use Rattle.folder_model.specs.Turn.{Ready, IsStored, stage_of};
 ghost use Rattle.folder_protocol.specs.Goes.{GoesInTurn};
 ghost use Rattle.folder_protocol.specs.Causes.{Fails, HasCall, LookCause, IsNamed};
 ghost use Rattle.folder_protocol.specs.Linking.{LinksOnly, LinksNone, WasSo, Watches, Each, One};

@@ -1,7 +1,7 @@
 //! How parts that are there already come to be on the disk.
 ghost use Rattle.std.specs.Prelude.{◌≡◌, List, ℕ, map, OnOk, OnErr};
 ghost use Rattle.std.specs.String.{string_bytes};
-ghost use Rattle.folder_history.specs.Parts.{Parts};
+ghost use Rattle.folder_model.specs.Parts.{Parts};
 ghost use Rattle.folder_protocol.specs.Causes.{Fails, HasCall};
 ghost use Rattle.folder_protocol.specs.Goes.{GoesInTurn};
 ghost use Rattle.folder_protocol.specs.Linking.{GoesPlainly};

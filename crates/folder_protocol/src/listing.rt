@@ -1,9 +1,9 @@
 //! How the names in a folder are listed.
 ghost use Rattle.std.specs.Prelude.{◌≡◌, None, map, IfOk, OnErr};
 ghost use Rattle.std.specs.String.{string_bytes};
-ghost use Rattle.folder_history.specs.Call.{lock_of};
-ghost use Rattle.folder_history.specs.Parts.{Parts};
-ghost use Rattle.folder_history.specs.Turn.{Gave, listing_of};
+ghost use Rattle.folder_model.specs.Call.{lock_of};
+ghost use Rattle.folder_model.specs.Parts.{Parts};
+ghost use Rattle.folder_model.specs.Turn.{Gave, listing_of};
 ghost use Rattle.folder_protocol.specs.Goes.{GoesInTurn};
 ghost use Rattle.folder_protocol.specs.Causes.{Fails, HasCall};
 ghost use Rattle.folder_protocol.specs.Linking.{LinksNone};

@@ -1,6 +1,6 @@
 //! A folder of which names are looked at.
 ghost use Rattle.std.specs.Prelude.{◌≡◌, ◌∷◌, is_ok};
-ghost use Rattle.folder_history.specs.Call.{Looked};
+ghost use Rattle.folder_model.specs.Call.{Looked};
 
 use crate::Folder;
 use std::io::{self, Read};

@@ -3,7 +3,7 @@ ghost use Rattle.std.specs.Prelude.{◌≡◌, map, true, false};
 ghost use Rattle.std.specs.List.{list_any};
 ghost use Rattle.std.specs.Str.{bytes_eq};
 ghost use Rattle.std.specs.String.{string_bytes};
-ghost use Rattle.folder_history.specs.Disk.{Among};
+ghost use Rattle.folder_model.specs.Disk.{Among};
 
 /// Whether a name is among those that were listed, mostly in ascending order. It wants no memory.
 pub fn has_name(listed: &[String], name: &str) -> bool

@@ -1,8 +1,8 @@
 //! How a part is put into a folder.
 ghost use Rattle.std.specs.Prelude.{◌≡◌, List, ℕ, [], Some, OnOk, OnErr, IfOk};
-ghost use Rattle.folder_history.specs.Call.{Exclusive, lock_of};
-ghost use Rattle.folder_history.specs.Parts.{Parts, IsNoPart};
-ghost use Rattle.folder_history.specs.Turn.{Filled, Ready, Guarded, IsStored, stage_of};
+ghost use Rattle.folder_model.specs.Call.{Exclusive, lock_of};
+ghost use Rattle.folder_model.specs.Parts.{Parts, IsNoPart};
+ghost use Rattle.folder_model.specs.Turn.{Filled, Ready, Guarded, IsStored, stage_of};
 ghost use Rattle.folder_protocol.specs.Goes.{GoesInTurn};
 ghost use Rattle.folder_protocol.specs.Causes.{Fails, HasCall, LookCause, IsNamed};
 ghost use Rattle.folder_protocol.specs.Linking.{GoesPlainly, LinksOnly};

@@ -2,7 +2,7 @@
 ghost use Rattle.std.specs.Prelude.{◌≡◌, List, [], ◌∷◌, Some, None, true, false, take, map};
 ghost use Rattle.std.specs.String.{string_bytes};
 ghost use Rattle.std.specs.Borrow.{ftrue};
-ghost use Rattle.folder_history.specs.Call.{Made, Wrote, Synced, Linked, Removed, Settled, Locked, Unlocked, Began, Listed, Read, Looked, Exclusive, Shared, Done, Taken, Failed};
+ghost use Rattle.folder_model.specs.Call.{Made, Wrote, Synced, Linked, Removed, Settled, Locked, Unlocked, Began, Listed, Read, Looked, Exclusive, Shared, Done, Taken, Failed};
 ghost use Rattle.folder_protocol.specs.Note.{Noted, calls_of};
 
 use std::marker::{Model, PhantomData};

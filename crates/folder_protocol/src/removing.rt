@@ -1,9 +1,9 @@
 //! How a pack removes what it has joined.
 ghost use Rattle.std.specs.Prelude.{◌≡◌, ℕ, List, map, Some, None, OnOk, OnErr, IfOk};
 ghost use Rattle.std.specs.String.{string_bytes};
-ghost use Rattle.folder_history.specs.Call.{Exclusive, lock_of};
-ghost use Rattle.folder_history.specs.Parts.{Parts};
-ghost use Rattle.folder_history.specs.Turn.{Guarded, IsStored, stage_of};
+ghost use Rattle.folder_model.specs.Call.{Exclusive, lock_of};
+ghost use Rattle.folder_model.specs.Parts.{Parts};
+ghost use Rattle.folder_model.specs.Turn.{Guarded, IsStored, stage_of};
 ghost use Rattle.folder_protocol.specs.Goes.{GoesInTurn, AreJoined, AreRemoved};
 ghost use Rattle.folder_protocol.specs.Causes.{Fails, HasCall, LookCause};
 ghost use Rattle.folder_protocol.specs.Linking.{GoesPlainly, LinksNone};

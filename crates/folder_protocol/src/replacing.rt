@@ -1,10 +1,10 @@
 //! How a part is put in the place of those that it was made of.
 ghost use Rattle.std.specs.Prelude.{◌≡◌, List, ℕ, ◌++◌, map, true, false, Some, None, OnErr, IfOk, IfSome};
 ghost use Rattle.std.specs.String.{string_bytes};
-ghost use Rattle.folder_history.specs.Call.{Call, Exclusive, lock_of};
-ghost use Rattle.folder_history.specs.Disk.{Among};
-ghost use Rattle.folder_history.specs.Parts.{Parts, IsNoPart};
-ghost use Rattle.folder_history.specs.Turn.{Ready, IsStored, stage_of};
+ghost use Rattle.folder_model.specs.Call.{Call, Exclusive, lock_of};
+ghost use Rattle.folder_model.specs.Disk.{Among};
+ghost use Rattle.folder_model.specs.Parts.{Parts, IsNoPart};
+ghost use Rattle.folder_model.specs.Turn.{Ready, IsStored, stage_of};
 ghost use Rattle.folder_protocol.specs.Goes.{GoesInTurn, AreJoined, AreRemoved};
 ghost use Rattle.folder_protocol.specs.Causes.{Fails, Lacks, HasCall, LookCause};
 ghost use Rattle.folder_protocol.specs.Linking.{LinksOnly, LinksNone, WasSo, Watches, HasEach, LacksOne};

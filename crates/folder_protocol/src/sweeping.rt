@@ -1,10 +1,10 @@
 //! How temporaries that nobody holds any more are removed.
 ghost use Rattle.std.specs.Prelude.{◌≡◌, ◌∷◌, ◌++◌, List, ℕ, Bool, true, false, None, map, OnOk, OnErr};
 ghost use Rattle.std.specs.String.{string_bytes};
-ghost use Rattle.folder_history.specs.Call.{Call, Removed, lock_of};
-ghost use Rattle.folder_history.specs.Disk.{Among};
-ghost use Rattle.folder_history.specs.Parts.{Parts, IsNoPart};
-ghost use Rattle.folder_history.specs.Turn.{Gave, listing_of};
+ghost use Rattle.folder_model.specs.Call.{Call, Removed, lock_of};
+ghost use Rattle.folder_model.specs.Disk.{Among};
+ghost use Rattle.folder_model.specs.Parts.{Parts, IsNoPart};
+ghost use Rattle.folder_model.specs.Turn.{Gave, listing_of};
 ghost use Rattle.folder_protocol.specs.Causes.{Fails, HasCall};
 ghost use Rattle.folder_protocol.specs.Goes.{GoesInTurn};
 ghost use Rattle.folder_protocol.specs.Linking.{GoesPlainly};

@@ -1,10 +1,10 @@
 //! How the parts of a folder are read, and given to what takes them.
 ghost use Rattle.std.specs.Prelude.{◌≡◌, ◌∷◌, ◌⊎◌, List, ℕ, None, map, true, false, IfOk, IfErr, OnOk};
 ghost use Rattle.std.specs.String.{string_bytes};
-ghost use Rattle.folder_history.specs.Call.{lock_of};
-ghost use Rattle.folder_history.specs.Disk.{Among};
-ghost use Rattle.folder_history.specs.Parts.{Parts, IsNoPart};
-ghost use Rattle.folder_history.specs.Turn.{Gave, listing_of};
+ghost use Rattle.folder_model.specs.Call.{lock_of};
+ghost use Rattle.folder_model.specs.Disk.{Among};
+ghost use Rattle.folder_model.specs.Parts.{Parts, IsNoPart};
+ghost use Rattle.folder_model.specs.Turn.{Gave, listing_of};
 ghost use Rattle.folder_protocol.specs.Goes.{GoesInTurn};
 ghost use Rattle.folder_protocol.specs.Linking.{GoesPlainly};
 ghost use Rattle.folder_protocol.specs.Reads.{KeepsRead, HasFound};

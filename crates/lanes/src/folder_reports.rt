@@ -4,7 +4,7 @@ use command_line::ReportForm;
 use program_failures::{Failure, write_line};
 use program_folders::{Opened, Parts, open_folder};
 use program_inputs::{Host, Progress};
-use replica_reading::{OpenFile, held_digest};
+use replica_reports::{OpenFile, held_digest};
 use std::alloc::AllocError;
 use table_model::Counted;
 
@@ -85,7 +85,7 @@ pub fn report_with<R: Print + AllocGlobal>(
     rows: &str,
 ) -> Result<(), Failure> {
     let mut report = Counted::new(Vec::new(rt.alloc()));
-    if let Err(refusal) = replica_reading::inspect(rt.alloc(), held, form, &mut report) {
+    if let Err(refusal) = replica_reports::inspect(rt.alloc(), held, form, &mut report) {
         return Err(Failure::from(refusal));
     }
     let report = with_rows(rt, report.into_inner().as_slice(), form, rows)?;

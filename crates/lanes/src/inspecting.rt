@@ -9,7 +9,7 @@ use program_failures::{Failure, buffered, flushed, told};
 use program_folders::{Opened, open_folder};
 use program_inputs::{Home, Host, LazyFile, Peeked, Progress, Told};
 use refusal_sentences::CommandRefusal;
-use replica_reading::{OpenFile, list_batches};
+use replica_reports::{OpenFile, list_batches};
 use std::fs::Files;
 use std::io::Read;
 use table_model::Counted;
@@ -102,7 +102,7 @@ fn inspect_file<R: Print + Files + AllocGlobal, D: Read + Drop>(
 ) -> Result<(), Failure> {
     let held = open(rt, file, reader)?;
     let mut writer = buffered(rt)?;
-    let outcome = replica_reading::inspect(rt.alloc(), &held, form, &mut writer);
+    let outcome = replica_reports::inspect(rt.alloc(), &held, form, &mut writer);
     told(rt, flushed(writer, outcome))
 }
 

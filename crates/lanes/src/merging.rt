@@ -2,9 +2,9 @@
 
 use command_line::{Merge, Source, not_for_a_folder};
 use either::Either;
-use file_home::{Left, merged};
-use folder_home::PartFault;
-use part_folder::path_in;
+use file_commands::{Left, merged};
+use folder_parts::PartFault;
+use folder_system::path_in;
 use program_changes::{Done, Headed, Heads, Reply, say};
 use program_failures::Failure;
 use program_files::{Output, is_special, write_in_place};

@@ -5,7 +5,7 @@ use program_failures::{Failure, unread_by};
 use program_folders::{Opened, open_folder};
 use program_inputs::{Home, Host, Progress, source_of};
 use refusal_sentences::CommandRefusal;
-use replica_reading::{HashKey, OpenFile};
+use replica_reports::{HashKey, OpenFile};
 use std::random::RandomSource;
 
 /// What a file or a folder holds, once all of it was read and judged.

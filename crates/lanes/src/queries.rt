@@ -6,7 +6,7 @@ use command_line::Format;
 use program_failures::Failure;
 use program_inputs::{Cause, Host, Progress, Watched};
 use refusal_sentences::{CommandRefusal, Knowledge, Text};
-use replica_reading::{Listener, answer_all, answer_lines};
+use replica_reports::{Listener, answer_all, answer_lines};
 use std::alloc::Global;
 use std::fmt;
 use std::io::{self, Write};

@@ -7,7 +7,7 @@ use live_columns::{Unchosen, choose};
 use program_failures::{Failure, buffered, flushed, told, unread_by};
 use program_inputs::{Home, Host, Progress, Watched, source_of};
 use refusal_sentences::{CommandRefusal, is_of_a_text};
-use replica_reading::{OpenFile, check_with_digest, dump_where};
+use replica_reports::{OpenFile, check_with_digest, dump_where};
 use std::io;
 use table_model::{Counted, Refusal};
 
@@ -35,7 +35,7 @@ fn check_file<R: Host>(
     let outcome = if has_digest {
         check_with_digest(rt.alloc(), &held, &mut writer)
     } else {
-        replica_reading::check(rt.alloc(), &held, &mut writer)
+        replica_reports::check(rt.alloc(), &held, &mut writer)
     };
     told(rt, writer.into_inner().ended(outcome))
 }
@@ -91,7 +91,7 @@ pub fn summary<R: Host>(
     }
     let held = opened(rt, progress, file)?;
     let mut writer = buffered(rt)?;
-    let outcome = replica_reading::summary(rt.alloc(), &held, &mut writer);
+    let outcome = replica_reports::summary(rt.alloc(), &held, &mut writer);
     told(rt, flushed(writer, outcome))
 }
 
@@ -113,7 +113,7 @@ pub fn offer<R: Host>(
         Err(refusal) => return Err(unread_by(rt, CommandRefusal::from(refusal), source, reader)),
     };
     let mut writer = buffered(rt)?;
-    let outcome = replica_reading::offer(rt.alloc(), &held, &summary, &mut writer);
+    let outcome = replica_reports::offer(rt.alloc(), &held, &summary, &mut writer);
     if outcome == Err(Refusal::SchemaDiffers) {
         let name = source.name();
         return Err(Failure::of_tables(rt.alloc(), name, summary.schema(), file, held.schema()));

@@ -2,10 +2,10 @@
 
 use crate::opening::opened;
 use command_line::Spread;
-use file_home::{Left, put};
-use file_replacing::{FileFolder, Place, SystemFileFolder};
-use folder_home::part_name;
-use part_folder::path_in;
+use file_commands::{Left, put};
+use file_protocol::{FileFolder, Place, SystemFileFolder};
+use folder_parts::part_name;
+use folder_system::path_in;
 use program_changes::{say_left, say_line};
 use program_failures::{Failure, not_written, unlocked};
 use program_files::WatchedFolder;

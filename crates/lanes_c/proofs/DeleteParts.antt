@@ -5,12 +5,12 @@ use Rattle.table_model.specs.Reading.{◌>>=◌}
 use Rattle.table_model.specs.declared.refusal.Refusal.{Refusal}
 use Rattle.table_model.specs.declared.refusal.Refusal.TheVariants.{WriteFault}
 use Rattle.column_file.specs.Input.{IsUnread}
-use Rattle.folder_home.specs.PartsPut.{PutsPart}
+use Rattle.folder_parts.specs.PartsPut.{PutsPart}
 use Rattle.replica_store.specs.Replica.{Replica}
-use Rattle.replica_commands.specs.Brings.{deletes_brought}
-use Rattle.replica_commands.specs.CommandForms.{Delete, OfDelete, answer_of, brought, has_changed, tagged}
-use Rattle.replica_commands.specs.Commands.{Made, file_made, file_of}
-use Rattle.replica_commands.specs.declared.command.Answer.{Answer}
+use Rattle.replica_changes.specs.Brings.{deletes_brought}
+use Rattle.replica_changes.specs.CommandForms.{Delete, OfDelete, answer_of, brought, has_changed, tagged}
+use Rattle.replica_changes.specs.Commands.{Made, file_made, file_of}
+use Rattle.replica_changes.specs.declared.command.Answer.{Answer}
 use Rattle.lanes_c.specs.Calls.{Asks, Yields}
 use Rattle.lanes_c.specs.DeletePart.{DeletesOpen, part_of_delete}
 use Rattle.lanes_c.specs.Faults.{told}

@@ -11,16 +11,16 @@ use Rattle.replica_store.specs.Exchange.{OfferForm, SummaryForm, offered, unlist
 use Rattle.replica_store.specs.Replica.{Replica}
 use Rattle.replica_store.specs.Segments.{StoreForm}
 use Rattle.table_model.specs.State.{State}
-use Rattle.replica_reading.specs.Held.{held_in}
-use Rattle.replica_commands.specs.Commands.{file_of, file_made, written_of, Made, Refuses, Leaves, Changes, Merges, applying}
-use Rattle.replica_reading.specs.Asking.{WritesText, Tells, IsFromOutside, answered_in, no_report, offer_of, offer_text, text_report}
+use Rattle.replica_reports.specs.Held.{held_in}
+use Rattle.replica_changes.specs.Commands.{file_of, file_made, written_of, Made, Refuses, Leaves, Changes, Merges, applying}
+use Rattle.replica_reports.specs.Asking.{WritesText, Tells, IsFromOutside, answered_in, no_report, offer_of, offer_text, text_report}
 use Rattle.answer_formats.specs.Formats.{formatted}
 use Rattle.answer_formats.specs.declared.format.Format.TheVariants.{Text}
 use Rattle.lanes_main.specs.FileReport.{opened_report, queries_report}
 use Rattle.store_view.specs.Asked.{query_answer}
 use Rattle.table_model.specs.Answer.{AnswerParts, answer_text}
 use Rattle.std.proofs.lemmas.List.{append-nil}
-use Rattle.replica_reading.specs.Dumps.{WritesLines}
+use Rattle.replica_reports.specs.Dumps.{WritesLines}
 use Rattle.script_lines.specs.Line.{command_of}
 use Rattle.script_lines.specs.TableWords.{TableWords}
 use Rattle.script_lines.specs.declared.command.Command.{Command}

@@ -14,10 +14,10 @@ use Rattle.csv_rows.specs.CsvText.{csv_rows}
 use Rattle.csv_rows.specs.Reading.{Reading, at_start, to_come}
 use Rattle.csv_rows.specs.declared.error.CsvError.{CsvError}
 use Rattle.csv_rows.specs.declared.error.CsvError.TheVariants as csv
-use Rattle.replica_reading.specs.Held.{held_in}
-use Rattle.replica_commands.specs.Commands.{schema_in}
-use Rattle.replica_commands.specs.CsvLoads.{AreCut, AreFull, LoadsRows, MayStop, RefusesText, StopsLoading, rows_of, with_batches}
-use Rattle.replica_commands.specs.Loads.{LoadForm, empty_load}
+use Rattle.replica_reports.specs.Held.{held_in}
+use Rattle.replica_changes.specs.Commands.{schema_in}
+use Rattle.replica_changes.specs.CsvLoads.{AreCut, AreFull, LoadsRows, MayStop, RefusesText, StopsLoading, rows_of, with_batches}
+use Rattle.replica_changes.specs.Loads.{LoadForm, empty_load}
 use Rattle.lanes_c.specs.Faults.{told, told_of_csv}
 use Rattle.lanes_c.specs.Importing.{HasTooMany, Loads, LoadsText, IsWhyNotLoaded, IsWhyNotRead, ImportsLoad, Imports}
 use Rattle.lanes_c.specs.Opened.{IsWhyNotOpened}

@@ -9,7 +9,7 @@ use Rattle.table_model.specs.Table.{ColumnShape, Table as Schema, first_fault, o
 use Rattle.table_model.specs.declared.refusal.Refusal.{Refusal}
 use Rattle.table_model.specs.declared.refusal.Refusal.TheVariants.{BatchTooLong, EmptyBatch, Full, Memory}
 use Rattle.replica_store.specs.Replica.{batch_limit, unless_fault}
-use Rattle.replica_commands.specs.Loads.{LoadForm, added_batch}
+use Rattle.replica_changes.specs.Loads.{LoadForm, added_batch}
 use Rattle.lanes_c.specs.InputColumns.{InputForm, IsNotAdded, RowIsBelow, all_rows, batch_count, input_batch, input_batches, input_load, input_row, input_rows}
 use Rattle.lanes_c.proofs.InputFaults.{IsBelow, faults_append, faults_below, faults_later, later_of}
 

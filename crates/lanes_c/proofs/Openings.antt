@@ -5,7 +5,7 @@ use Rattle.table_model.specs.Answer.{AnswerParts, answer_text}
 use Rattle.table_model.specs.Reading.{◌>>=◌}
 use Rattle.table_model.specs.declared.refusal.Refusal.{Refusal}
 use Rattle.table_model.specs.declared.refusal.Refusal.TheVariants.{Memory, ReadFault, WriteFault}
-use Rattle.replica_reading.specs.Held.{held_in}
+use Rattle.replica_reports.specs.Held.{held_in}
 use Rattle.replica_store.specs.Replica.{Replica}
 use Rattle.store_view.specs.Asked.{query_answer}
 use Rattle.lanes_c.specs.Calls.{Yields, query_of}

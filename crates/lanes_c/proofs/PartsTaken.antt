@@ -1,10 +1,10 @@
 -- What a forget of parts begins.
 use Rattle.std.specs.Prelude.{◌≡◌, ℕ, List, [], MatchOption, Option, Some, None, Ok}
 use Rattle.std.proofs.Common.{sym, ap, subst, ◌∙◌}
-use Rattle.folder_replay.specs.Orders.{matter_of}
-use Rattle.folder_replay.specs.Turns.{State}
-use Rattle.folder_replay.specs.declared.order.Order.{Order}
-use Rattle.replica_commands.specs.Forgetting.{forgetting}
+use Rattle.folder_turns.specs.Orders.{matter_of}
+use Rattle.folder_turns.specs.Turns.{State}
+use Rattle.folder_turns.specs.declared.order.Order.{Order}
+use Rattle.replica_changes.specs.Forgetting.{forgetting}
 use Rattle.read_parts.specs.Orders as parts
 use Rattle.read_parts.specs.declared.parts.Forget.{Forget}
 use Rattle.lanes_c.specs.PartsHandles.{Read}

@@ -5,7 +5,7 @@ use Rattle.std.specs.Str.Lossy.{utf8_valid_len}
 use Rattle.std.proofs.Common.{refl, sym, ap, subst, ◌∙◌, append_assoc, arith, inr, Bor}
 use Rattle.std.proofs.lemmas.List.{append-nil, get_or-map, length-append, length-map, take_all, take_more}
 use Rattle.table_model.specs.declared.refusal.Refusal.TheVariants.{Syntax}
-use Rattle.replica_reading.specs.Held.{held_in}
+use Rattle.replica_reports.specs.Held.{held_in}
 use Rattle.replica_store.specs.Replica.{Replica}
 use Rattle.lanes_c.specs.Calls.{Asks}
 use Rattle.lanes_c.specs.Faults.{of_query}

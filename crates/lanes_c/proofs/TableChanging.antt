@@ -25,9 +25,9 @@ use Rattle.replica_store.specs.Forgets.{forgotten_batches}
 use Rattle.replica_store.specs.Replica.{Replica, deleted_names, with_deleted}
 use Rattle.replica_store.specs.Segments.{StoreForm}
 use Rattle.replica_store.proofs.Offers.{get-unlisted}
-use Rattle.replica_commands.specs.Commands.{Made, Makes, applying, deleting}
-use Rattle.replica_commands.specs.Loads.{LoadForm}
-use Rattle.replica_commands.proofs.StoreCommands.{deletes_ok, only_memory}
+use Rattle.replica_changes.specs.Commands.{Made, Makes, applying, deleting}
+use Rattle.replica_changes.specs.Loads.{LoadForm}
+use Rattle.replica_changes.proofs.StoreCommands.{deletes_ok, only_memory}
 use Rattle.store_view.specs.Asked.{condition_names}
 use Rattle.lanes_c.specs.Calls.{Asks, Yields}
 use Rattle.lanes_c.specs.Faults.{nowhere, told}

@@ -6,10 +6,10 @@ use Rattle.table_model.specs.declared.refusal.Refusal.{Refusal}
 use Rattle.table_model.specs.declared.refusal.Refusal.TheVariants.{Memory, WriteFault}
 use Rattle.answer_formats.specs.declared.format.ReportForm.{ReportForm}
 use Rattle.column_file.specs.Files.{AreCanonicalOf, Exports, OpensTo}
-use Rattle.replica_reading.specs.Held.{held_in}
-use Rattle.replica_commands.specs.Commands.{Puts, as_held, file_of}
-use Rattle.replica_reading.specs.Reports.{Reports, WritesReport}
-use Rattle.replica_commands.proofs.CommandSteps.{export_puts}
+use Rattle.replica_reports.specs.Held.{held_in}
+use Rattle.replica_changes.specs.Commands.{Puts, as_held, file_of}
+use Rattle.replica_reports.specs.Reports.{Reports, WritesReport}
+use Rattle.replica_changes.proofs.CommandSteps.{export_puts}
 use Rattle.replica_store.specs.Replica.{Replica}
 use Rattle.replica_store.specs.Segments.{StoreForm}
 use Rattle.lanes_c.specs.Calls.{Yields}

@@ -1,25 +1,25 @@
 -- What the end of a turn says by its number.
 use Rattle.std.proofs.Common.{◌≡◌, refl, sym, subst, ◌⊎◌, inl, inr, ⊎_elim, ℕ, List, ◌++◌, Option, Some, None, MatchOption, Result, Ok, Err, IfOk, arith}
-use Rattle.folder_history.specs.Call.{Call}
-use Rattle.folder_history.specs.Parts.{Parts}
-use Rattle.folder_history.specs.Turn.{IsStored}
+use Rattle.folder_model.specs.Call.{Call}
+use Rattle.folder_model.specs.Parts.{Parts}
+use Rattle.folder_model.specs.Turn.{IsStored}
 use Rattle.folder_protocol.specs.Causes.{FailsToSync, FindsNone, HasCall, Lacks}
 use Rattle.folder_protocol.specs.Goes.{AreRemoved}
 use Rattle.folder_protocol.specs.Keeping.{AreKept}
 use Rattle.folder_protocol.specs.declared.putting.Outcome.{Outcome}
 use Rattle.folder_protocol.specs.declared.putting.Outcome.TheVariants.{OnDisk, Unsynced, Gone, Damaged}
-use Rattle.folder_replay.specs.Orders.{Matter, Caused, Says, HasOnlySeen, HasUnseen}
-use Rattle.folder_replay.specs.Turns.{State, EndsSaying}
-use Rattle.folder_replay.specs.declared.order.End.{End}
-use Rattle.folder_replay.specs.declared.order.End.TheVariants as ends
-use Rattle.folder_replay.specs.declared.order.Task.{Task}
-use Rattle.folder_replay.specs.declared.order.Task.TheVariants as tasks
-use Rattle.folder_replay.specs.declared.replay.Fault.{Fault as ReplayFault}
-use Rattle.folder_replay.specs.declared.replay.Fault.TheVariants as replay
+use Rattle.folder_turns.specs.Orders.{Matter, Caused, Says, HasOnlySeen, HasUnseen}
+use Rattle.folder_turns.specs.Turns.{State, EndsSaying}
+use Rattle.folder_turns.specs.declared.order.End.{End}
+use Rattle.folder_turns.specs.declared.order.End.TheVariants as ends
+use Rattle.folder_turns.specs.declared.order.Task.{Task}
+use Rattle.folder_turns.specs.declared.order.Task.TheVariants as tasks
+use Rattle.folder_turns.specs.declared.replay.Fault.{Fault as ReplayFault}
+use Rattle.folder_turns.specs.declared.replay.Fault.TheVariants as replay
 use Rattle.lanes_c.specs.Faults.{told_of_replay}
 use Rattle.lanes_c.specs.FolderTurns.{EndsAs, EndsIn, FaultCause, GoesOn, HasEnded, NumberCause, SaysEnd}
 use Rattle.lanes_c.specs.declared.fault.Fault.{Fault}
-use Rattle.lanes_c.specs.declared.folder_turns.FolderCall.{FolderCall}
+use Rattle.lanes_c.specs.declared.turn_calls.FolderCall.{FolderCall}
 
 -- a number that is neither 1 nor 2
 neither : (P : Type 0) (k n : ℕ) → n ≡ k → (k ≡ 1 → ⊥) → (k ≡ 2 → ⊥) → (n ≡ 1) ⊎ (n ≡ 2) → P

@@ -22,9 +22,9 @@ use Rattle.std.specs.contracts.impls.GlobalAllocator.TheImpl.{ghosts}
 use Rattle.std.proofs.GlobalToken.{dealloc_token-Testable}
 use Rattle.std_alloc.specs.Box.Ownership.{box_owns}
 use Rattle.lanes_c.specs.TurnHandles.{turn_owns}
-use Rattle.folder_replay.specs.Turns.{State, state_of}
-use Rattle.folder_replay.specs.declared.turn.Turn.{Turn}
-use Rattle.folder_replay.specs.contracts.turn.Turn as held
+use Rattle.folder_turns.specs.Turns.{State, state_of}
+use Rattle.folder_turns.specs.declared.turn.Turn.{Turn}
+use Rattle.folder_turns.specs.contracts.turn.Turn as held
 use Rattle.lanes_c.specs.contracts.turn_handle.FolderTurn as handle
 
 abbrev pub word : Ptr → Val

@@ -1,12 +1,12 @@
 -- What a handle of a turn has, and what is told of it.
 use Rattle.std.proofs.Common.{◌≡◌, refl, sym, subst, ap, ◌∙◌, inl, ℕ, List, MatchOption, MatchResult, Option, Some, None, Result, Ok, Err}
-use Rattle.folder_history.specs.Call.{Call}
-use Rattle.folder_replay.specs.Turns.{State}
+use Rattle.folder_model.specs.Call.{Call}
+use Rattle.folder_turns.specs.Turns.{State}
 use Rattle.lanes_c.specs.FolderTurns.{Drives, DrivesOpen, GoesOn, HasTold, IsAbout, names_left}
 use Rattle.lanes_c.specs.Rooms.{Given}
 use Rattle.lanes_c.specs.declared.fault.Fault.{Fault}
 use Rattle.lanes_c.specs.declared.fault.Fault.TheVariants.{NotOpen}
-use Rattle.lanes_c.specs.declared.folder_turns.FolderCall.{FolderCall}
+use Rattle.lanes_c.specs.declared.turn_calls.FolderCall.{FolderCall}
 use Rattle.lanes_c.specs.declared.turn_handle.FolderTurn.{FolderTurn}
 
 module _ (before : List Call) (kind number : ℕ) (bytes : List ℕ) (old new : FolderTurn) (call : FolderCall) where

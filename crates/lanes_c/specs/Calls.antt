@@ -14,15 +14,15 @@ use Rattle.column_file.specs.SummaryBytes.{summary_read}
 use Rattle.replica_store.specs.Exchange.{OfferForm, SummaryForm, offered}
 use Rattle.replica_store.specs.Replica.{Replica}
 use Rattle.store_view.specs.Asked.{query_answer}
-use Rattle.replica_reading.specs.Held.{held_in, summarizing}
-use Rattle.replica_commands.specs.Commands as commands
-use Rattle.replica_reading.specs.Dumps.{dumping}
-use Rattle.replica_commands.specs.Forgetting.{forgetting}
+use Rattle.replica_reports.specs.Held.{held_in, summarizing}
+use Rattle.replica_changes.specs.Commands as commands
+use Rattle.replica_reports.specs.Dumps.{dumping}
+use Rattle.replica_changes.specs.Forgetting.{forgetting}
 use Rattle.script_lines.specs.Line.{command_of}
 use Rattle.script_lines.specs.TableWords.{TableWords}
 use Rattle.script_lines.specs.declared.command.Command.{Command}
 use Rattle.script_lines.specs.declared.command.Command.TheVariants.{Table as MakesTable}
-use Rattle.replica_reading.specs.Asking.{checked_text}
+use Rattle.replica_reports.specs.Asking.{checked_text}
 use Rattle.replica_store.specs.Segments.{StoreForm}
 use Rattle.lanes_c.specs.Rooms.{Given}
 use Rattle.lanes_c.specs.declared.fault.Fault.{Fault}

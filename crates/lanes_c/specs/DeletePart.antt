@@ -3,10 +3,10 @@ use Rattle.std.specs.Prelude.{◌≡◌, ◌==◌, ℕ, cond, List, [], MatchOpt
 use Rattle.table_model.specs.Reading.{◌>>=◌}
 use Rattle.table_model.specs.declared.refusal.Refusal.{Refusal}
 use Rattle.replica_store.specs.Replica.{Replica}
-use Rattle.replica_commands.specs.Brings.{deletes_brought}
-use Rattle.replica_commands.specs.Commands.{file_of}
-use Rattle.replica_commands.specs.declared.command.Answer.{Answer}
-use Rattle.replica_commands.specs.declared.command.Answer.TheVariants as answers
+use Rattle.replica_changes.specs.Brings.{deletes_brought}
+use Rattle.replica_changes.specs.Commands.{file_of}
+use Rattle.replica_changes.specs.declared.command.Answer.{Answer}
+use Rattle.replica_changes.specs.declared.command.Answer.TheVariants as answers
 use Rattle.lanes_c.specs.Calls.{Asks}
 use Rattle.lanes_c.specs.Rooms.{Given, Tells}
 use Rattle.lanes_c.specs.declared.delete_part.DeletePart.{DeletePart}

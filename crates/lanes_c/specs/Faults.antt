@@ -13,10 +13,10 @@ use Rattle.partial_commands.specs.declared.partial_answer_error.PartialAnswerErr
 use Rattle.partial_commands.specs.declared.partial_answer_error.PartialAnswerError.TheVariants as errors
 use Rattle.csv_rows.specs.declared.error.CsvError.{CsvError}
 use Rattle.csv_rows.specs.declared.error.CsvError.TheVariants as csv
-use Rattle.folder_home.specs.declared.fault.PartFault.{PartFault}
-use Rattle.folder_home.specs.declared.fault.PartFault.TheVariants as parts
-use Rattle.folder_replay.specs.declared.replay.Fault.{Fault as ReplayFault}
-use Rattle.folder_replay.specs.declared.replay.Fault.TheVariants as replay
+use Rattle.folder_parts.specs.declared.fault.PartFault.{PartFault}
+use Rattle.folder_parts.specs.declared.fault.PartFault.TheVariants as parts
+use Rattle.folder_turns.specs.declared.replay.Fault.{Fault as ReplayFault}
+use Rattle.folder_turns.specs.declared.replay.Fault.TheVariants as replay
 use Rattle.live_columns.specs.declared.choice.Unchosen.{Unchosen}
 use Rattle.live_columns.specs.declared.choice.Unchosen.TheVariants as unchosen
 use Rattle.lanes_c.specs.declared.fault.Place.{Place}

@@ -2,8 +2,8 @@
 use Rattle.std.specs.Prelude.{◌≡◌, ℕ, List, Option, Some, Result, Ok, Err}
 use Rattle.table_model.specs.Reading.{◌>>=◌}
 use Rattle.table_model.specs.declared.refusal.Refusal.{Refusal}
-use Rattle.folder_home.specs.Heads.{head_in}
-use Rattle.folder_home.specs.PartsPut.{empty_replica}
+use Rattle.folder_parts.specs.Heads.{head_in}
+use Rattle.folder_parts.specs.PartsPut.{empty_replica}
 use Rattle.replica_store.specs.Replica.{Replica}
 use Rattle.lanes_c.specs.Calls.{Yields}
 use Rattle.lanes_c.specs.PartsRead.{number_of_given, place_of_given}

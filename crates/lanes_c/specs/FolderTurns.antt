@@ -1,29 +1,29 @@
 -- What the calls that drive a folder tell.
 use Rattle.std.specs.Prelude.{◌≡◌, ◌≢◌, ◌⊎◌, ℕ, ◌<◌, ◌==◌, if◌then◌else◌, List, [], ◌++◌, ◌∷◌, drop, length, MatchOption, Option, Some, None, Result, Ok, Err}
-use Rattle.folder_history.specs.Call.{Call, Made, Wrote, Synced, Linked, Removed, Settled, Locked, Unlocked, Began, Listed, Read, Looked, Exclusive, Shared}
-use Rattle.folder_history.specs.Parts.{Parts}
-use Rattle.folder_history.specs.Turn.{IsStored}
-use Rattle.folder_home.specs.PartName.{part_name}
+use Rattle.folder_model.specs.Call.{Call, Made, Wrote, Synced, Linked, Removed, Settled, Locked, Unlocked, Began, Listed, Read, Looked, Exclusive, Shared}
+use Rattle.folder_model.specs.Parts.{Parts}
+use Rattle.folder_model.specs.Turn.{IsStored}
+use Rattle.folder_parts.specs.PartName.{part_name}
 use Rattle.folder_protocol.specs.Causes.{Fails, FailsToSync, FindsNone, FindsOther, HasCall, Lacks}
 use Rattle.folder_protocol.specs.Goes.{AreRemoved}
 use Rattle.folder_protocol.specs.Keeping.{AreKept}
 use Rattle.folder_protocol.specs.declared.putting.Outcome.TheVariants.{OnDisk, Unsynced, Gone, Damaged}
-use Rattle.folder_replay.specs.Calls.{answered, names_of, found_of}
-use Rattle.folder_replay.specs.Orders.{Matter, MayTake, HasOnlySeen, HasUnseen, LinksInTask}
-use Rattle.folder_replay.specs.Turns.{State, AsksInTurn}
-use Rattle.folder_replay.specs.declared.order.End.{End}
-use Rattle.folder_replay.specs.declared.order.End.TheVariants as ends
-use Rattle.folder_replay.specs.declared.order.Task.{Task}
-use Rattle.folder_replay.specs.declared.order.Task.TheVariants as tasks
-use Rattle.folder_replay.specs.declared.request.Answer.{Answer}
-use Rattle.folder_replay.specs.declared.request.Answer.TheVariants as answers
+use Rattle.folder_turns.specs.Calls.{answered, names_of, found_of}
+use Rattle.folder_turns.specs.Orders.{Matter, MayTake, HasOnlySeen, HasUnseen, LinksInTask}
+use Rattle.folder_turns.specs.Turns.{State, AsksInTurn}
+use Rattle.folder_turns.specs.declared.order.End.{End}
+use Rattle.folder_turns.specs.declared.order.End.TheVariants as ends
+use Rattle.folder_turns.specs.declared.order.Task.{Task}
+use Rattle.folder_turns.specs.declared.order.Task.TheVariants as tasks
+use Rattle.folder_turns.specs.declared.request.Answer.{Answer}
+use Rattle.folder_turns.specs.declared.request.Answer.TheVariants as answers
 use Rattle.table_model.specs.declared.refusal.Refusal.TheVariants.{Memory}
 use Rattle.lanes_c.specs.Faults.{nowhere, number_of_fault, place_of_fault}
 use Rattle.lanes_c.specs.Rooms.{Given, Tells}
 use Rattle.lanes_c.specs.declared.fault.Fault.{Fault}
 use Rattle.lanes_c.specs.declared.fault.Fault.TheVariants as faults
 use Rattle.lanes_c.specs.declared.fault.Place.{Place}
-use Rattle.lanes_c.specs.declared.folder_turns.FolderCall.{FolderCall}
+use Rattle.lanes_c.specs.declared.turn_calls.FolderCall.{FolderCall}
 use Rattle.lanes_c.specs.declared.turn_handle.FolderTurn.{FolderTurn}
 
 -- the task of a command's number; each other number is that of a listing

@@ -9,10 +9,10 @@ use Rattle.column_file.specs.Input.{IsUnread}
 use Rattle.replica_store.specs.Replica.{Replica, batch_limit}
 use Rattle.csv_rows.specs.CsvText.{csv_rows}
 use Rattle.csv_rows.specs.declared.error.CsvError.TheVariants as csv
-use Rattle.replica_reading.specs.Held.{held_in}
-use Rattle.replica_commands.specs.Commands.{file_made}
-use Rattle.replica_commands.specs.CsvLoads.{AreCut}
-use Rattle.replica_commands.specs.Loads.{LoadForm, importing}
+use Rattle.replica_reports.specs.Held.{held_in}
+use Rattle.replica_changes.specs.Commands.{file_made}
+use Rattle.replica_changes.specs.CsvLoads.{AreCut}
+use Rattle.replica_changes.specs.Loads.{LoadForm, importing}
 use Rattle.lanes_c.specs.Calls.{Yields}
 use Rattle.lanes_c.specs.Opened.{IsWhyNotOpened}
 use Rattle.lanes_c.specs.Rooms.{Given}

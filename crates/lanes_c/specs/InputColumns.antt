@@ -10,7 +10,7 @@ use Rattle.table_model.specs.declared.refusal.Refusal.{Refusal}
 use Rattle.table_model.specs.declared.refusal.Refusal.TheVariants.{Full, Memory, OutOfType, WrongArity}
 use Rattle.live_columns.specs.Columns.{stride_of}
 use Rattle.replica_store.specs.Replica.{Replica, batch_limit, unless_fault}
-use Rattle.replica_commands.specs.Loads.{LoadForm, added_batch}
+use Rattle.replica_changes.specs.Loads.{LoadForm, added_batch}
 use Rattle.lanes_c.specs.TableChanges.{with_load}
 
 -- columns that are given: how many rows and columns, their numbers and their validity bits

@@ -4,7 +4,7 @@ use Rattle.table_model.specs.Answer.{answer_text}
 use Rattle.table_model.specs.Reading.{◌>>=◌}
 use Rattle.table_model.specs.declared.refusal.Refusal.{Refusal}
 use Rattle.column_file.specs.Input.{IsUnread}
-use Rattle.replica_reading.specs.Held.{held_in}
+use Rattle.replica_reports.specs.Held.{held_in}
 use Rattle.replica_store.specs.Replica.{Replica}
 use Rattle.store_view.specs.Asked.{query_answer}
 use Rattle.lanes_c.specs.Calls.{Asks, query_of}

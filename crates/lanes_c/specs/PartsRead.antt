@@ -2,16 +2,16 @@
 use Rattle.std.specs.Prelude.{◌≡◌, ◌⊎◌, ℕ, List, [], ◌∷◌, IfOk, MatchOption, Option, Some, None, Result, Ok, Err}
 use Rattle.std.specs.Global.{Box}
 use Rattle.table_model.specs.declared.refusal.Refusal.TheVariants.{Memory}
-use Rattle.folder_home.specs.Parts.{JoinsPart, OpensPart, PartForm}
-use Rattle.folder_home.specs.declared.fault.PartFault.{PartFault}
-use Rattle.folder_replay.specs.Orders.{matter_of}
-use Rattle.folder_replay.specs.Turns.{State, state_of}
-use Rattle.folder_replay.specs.declared.order.Order.{Order}
-use Rattle.folder_replay.specs.declared.order.Task.TheVariants.{Replace}
-use Rattle.folder_replay.specs.declared.turn.Turn.{Turn}
+use Rattle.folder_parts.specs.Parts.{JoinsPart, OpensPart, PartForm}
+use Rattle.folder_parts.specs.declared.fault.PartFault.{PartFault}
+use Rattle.folder_turns.specs.Orders.{matter_of}
+use Rattle.folder_turns.specs.Turns.{State, state_of}
+use Rattle.folder_turns.specs.declared.order.Order.{Order}
+use Rattle.folder_turns.specs.declared.order.Task.TheVariants.{Replace}
+use Rattle.folder_turns.specs.declared.turn.Turn.{Turn}
 use Rattle.replica_store.specs.Replica.{Replica}
-use Rattle.replica_commands.specs.Commands.{file_of}
-use Rattle.replica_commands.specs.Forgetting.{forgetting}
+use Rattle.replica_changes.specs.Commands.{file_of}
+use Rattle.replica_changes.specs.Forgetting.{forgetting}
 use Rattle.read_parts.specs.Orders.{MayFollow, matter_replacing, names_of}
 use Rattle.read_parts.specs.declared.parts.ReadParts.{ReadParts}
 use Rattle.lanes_c.specs.Faults.{nowhere, number_of_fault, place_of_fault, told_of_part}

@@ -9,9 +9,9 @@ use Rattle.table_model.specs.declared.refusal.Refusal.TheVariants.{Memory}
 use Rattle.column_file.specs.Files.{offer_read}
 use Rattle.replica_store.specs.Replica.{Replica, deleted_rows}
 use Rattle.replica_store.specs.Segments.{StoreForm}
-use Rattle.replica_commands.specs.Commands.{Made, applying, deleting}
-use Rattle.replica_commands.specs.Forgetting.{forgetting}
-use Rattle.replica_commands.specs.Loads.{LoadForm, importing}
+use Rattle.replica_changes.specs.Commands.{Made, applying, deleting}
+use Rattle.replica_changes.specs.Forgetting.{forgetting}
+use Rattle.replica_changes.specs.Loads.{LoadForm, importing}
 use Rattle.lanes_c.specs.Calls.{Yields}
 use Rattle.lanes_c.specs.Faults.{nowhere, number_of_fault, place_of_fault}
 use Rattle.lanes_c.specs.Importing.{IsWhyNotRead, LoadsText}

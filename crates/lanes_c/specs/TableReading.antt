@@ -5,8 +5,8 @@ use Rattle.answer_formats.specs.declared.format.ReportForm.{ReportForm}
 use Rattle.answer_formats.specs.declared.format.ReportForm.TheVariants.{Text, Json}
 use Rattle.column_file.specs.Files.{AreCanonicalOf}
 use Rattle.column_file.specs.Input.{IsUnread}
-use Rattle.replica_commands.specs.Commands.{as_held}
-use Rattle.replica_reading.specs.Reports.{Reports}
+use Rattle.replica_changes.specs.Commands.{as_held}
+use Rattle.replica_reports.specs.Reports.{Reports}
 use Rattle.replica_store.specs.Replica.{Replica}
 use Rattle.replica_store.specs.Segments.{StoreForm}
 use Rattle.lanes_c.specs.Opened.{IsNotOpen}

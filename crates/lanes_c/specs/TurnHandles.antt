@@ -7,9 +7,9 @@ use Rattle.std.specs.declared.option.Option.TheVariants.{None, Some}
 use Rattle.std.specs.declared.alloc.Global.{Global}
 use Rattle.std.specs.contracts.impls.GlobalAllocator.TheImpl.{ghosts}
 use Rattle.std_alloc.specs.Box.Ownership.{box_owns}
-use Rattle.folder_replay.specs.Turns.{State, state_of}
-use Rattle.folder_replay.specs.declared.turn.Turn.{Turn}
-use Rattle.folder_replay.specs.contracts.turn.Turn.{the_row}
+use Rattle.folder_turns.specs.Turns.{State, state_of}
+use Rattle.folder_turns.specs.declared.turn.Turn.{Turn}
+use Rattle.folder_turns.specs.contracts.turn.Turn.{the_row}
 
 -- the box of a turn at a pointer, and that the handle's state is the turn's
 abbrev pub boxed_turn : Ptr → Option State → Global → Turn → Fml

@@ -8,7 +8,7 @@ use crate::fault::{Fault, Place};
 use crate::room::hand_out;
 use crate::taking::{left, taken, text_of};
 use csv_rows::CsvReader;
-use replica_commands::{Load, create, delete, file_schema, forget, import, read_csv};
+use replica_changes::{Load, create, delete, file_schema, forget, import, read_csv};
 use script_lines::{Command, TableCommand, parse_line};
 use std::alloc::{AllocError, Global};
 use table_model::{BatchName, Counted, Number, Origin, Refusal, Schema};

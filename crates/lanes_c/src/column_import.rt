@@ -10,7 +10,7 @@ use crate::fault::{Fault, Place};
 use crate::handle::Table;
 use crate::input_columns::InputColumns;
 use crate::table_changes::{put_change, tell, with_load};
-use replica_commands::Load;
+use replica_changes::Load;
 use replica_store::Store;
 use std::alloc::Global;
 use std::mem::replace;

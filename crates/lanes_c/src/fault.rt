@@ -5,8 +5,8 @@ ghost use Rattle.lanes_c.specs.declared.fault.Fault.TheVariants.{Refused};
 ghost use Rattle.table_model.specs.declared.refusal.Refusal.TheVariants.{Memory};
 
 use csv_rows::CsvError;
-use folder_home::PartFault;
-use folder_replay::Fault as ReplayFault;
+use folder_parts::PartFault;
+use folder_turns::Fault as ReplayFault;
 use live_columns::Unchosen;
 use partial_answers::PartialAnswerFault;
 use partial_commands::{ExpectationError, PartialAnswerError};

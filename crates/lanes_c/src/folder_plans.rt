@@ -1,5 +1,5 @@
 //! The calls that a program asks before it works on a folder: which parts are packed next, and what the head of a part says.
-ghost use Rattle.folder_home.specs.Packing.{IsPackedPrefix};
+ghost use Rattle.folder_parts.specs.Packing.{IsPackedPrefix};
 ghost use Rattle.lanes_c.specs.Calls.{Yields};
 ghost use Rattle.lanes_c.specs.FolderPlans.{ReadsHead, empty_head, head_by};
 
@@ -7,7 +7,7 @@ use crate::fault::{Fault, Place};
 use crate::handle::Table;
 use crate::shared::Shared;
 use crate::table_changes::tell;
-use folder_home::{packed_prefix, part_head};
+use folder_parts::{packed_prefix, part_head};
 use query_eval::HashKey;
 use replica_store::Store;
 use std::alloc::Global;

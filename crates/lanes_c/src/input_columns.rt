@@ -3,11 +3,11 @@ ghost use Rattle.std.specs.Prelude.{◌≡◌, ◌⊎◌, ◌<◌, ◌≤◌, �
 ghost use Rattle.table_model.specs.Table.{column_limit, first_fault, row_limit};
 ghost use Rattle.table_model.specs.declared.refusal.Refusal.TheVariants.{Memory};
 ghost use Rattle.replica_store.specs.Replica.{batch_limit};
-ghost use Rattle.replica_commands.specs.Loads.{added_batch};
+ghost use Rattle.replica_changes.specs.Loads.{added_batch};
 ghost use Rattle.lanes_c.specs.InputColumns.{IsNotAdded, RowIsBelow, all_rows, count_fault, input_batch, input_cell, input_load, input_row, input_rows, is_value, later};
 
 use live_columns::stride_of;
-use replica_commands::Load;
+use replica_changes::Load;
 use std::alloc::{AllocError, Global};
 use std::marker::Model;
 use table_model::{MAX_ROWS, MAX_STATE_ROWS, Refusal, Rows, Schema};

@@ -32,7 +32,7 @@ mod spreading;
 mod table_changes;
 mod table_reading;
 mod taking;
-mod folder_turns;
+mod turn_calls;
 mod turn_handle;
 
 pub use changing::{lanes_create, lanes_delete, lanes_forget, lanes_import};
@@ -61,7 +61,7 @@ pub use table_changes::{
     lanes_table_import,
 };
 pub use table_reading::{lanes_batches, lanes_digest, lanes_file, lanes_inspect};
-pub use folder_turns::{
+pub use turn_calls::{
     FolderCall, lanes_folder_begin, lanes_folder_end, lanes_folder_name, lanes_folder_next,
     lanes_part_name,
 };

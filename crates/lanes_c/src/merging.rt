@@ -6,7 +6,7 @@ ghost use Rattle.lanes_c.specs.Rooms.{Tells, given_by};
 use crate::fault::{Fault, Place};
 use crate::room::hand_out;
 use crate::taking::taken;
-use replica_commands::merge;
+use replica_changes::merge;
 use std::alloc::Global;
 use table_model::Counted;
 

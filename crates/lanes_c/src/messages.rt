@@ -2,15 +2,15 @@
 ghost use Rattle.std.specs.Prelude.{◌≡◌};
 ghost use Rattle.lanes_c.specs.Calls.{Yields, summary_of, apply_of, OffersAt, OffersTo};
 ghost use Rattle.lanes_c.specs.Rooms.{Tells, given_by};
-ghost use Rattle.replica_reading.specs.Held.{summarizing};
+ghost use Rattle.replica_reports.specs.Held.{summarizing};
 
 use crate::fault::{Fault, Place};
 use crate::opening::opened_file;
 use crate::room::hand_out;
 use crate::taking::{left, taken};
 use column_file::{read_offer, read_summary};
-use replica_commands::apply;
-use replica_reading::{OpenFile, offer, summary};
+use replica_changes::apply;
+use replica_reports::{OpenFile, offer, summary};
 use replica_store::Summary;
 use std::alloc::Global;
 use table_model::Counted;

@@ -3,7 +3,7 @@ ghost use Rattle.std.specs.Prelude.{◌≡◌, IfOk, IfErr, List, Ok, ℕ};
 ghost use Rattle.lanes_c.specs.Calls.{Yields, Asks, query_of};
 ghost use Rattle.lanes_c.specs.Opened.{IsWhyNotOpened, Opens, AsksOpen, Shares, TakesKey, IsClosed, answered_at};
 ghost use Rattle.lanes_c.specs.Rooms.{given_by};
-ghost use Rattle.replica_reading.specs.Held.{held_in};
+ghost use Rattle.replica_reports.specs.Held.{held_in};
 
 use crate::fault::{Fault, NOT_OPEN, Place};
 use crate::handle::Table;
@@ -12,7 +12,7 @@ use crate::shared::Shared;
 use crate::taking::text_of;
 use column_file::open;
 use query_eval::{HashKey, text};
-use replica_reading::OpenFile;
+use replica_reports::OpenFile;
 use replica_store::Store;
 use std::alloc::Global;
 use std::boxed::Box;

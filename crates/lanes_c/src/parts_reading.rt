@@ -9,7 +9,7 @@ use crate::parts_handle::FolderParts;
 use crate::shared::Shared;
 use crate::table_changes::tell;
 use crate::taking::text_of;
-use folder_home::PartFault;
+use folder_parts::PartFault;
 use query_eval::HashKey;
 use read_parts::ReadParts;
 use std::alloc::Global;

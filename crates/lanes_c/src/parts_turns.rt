@@ -1,7 +1,7 @@
 //! The calls that begin a turn in which something is put in the place of the parts that it was made of: a pack and a forget.
 ghost use Rattle.std.specs.Prelude.{◌≡◌, IfErr, IfOk, MatchOption, None};
 ghost use Rattle.table_model.specs.declared.refusal.Refusal.TheVariants.{Memory};
-ghost use Rattle.folder_replay.specs.Turns.{state_of};
+ghost use Rattle.folder_turns.specs.Turns.{state_of};
 ghost use Rattle.lanes_c.specs.PartsRead.{Forgets, ForgetsRead, GivesPart, NoParts, Packs, PacksRead, begun_by, forgot_by, turn_of};
 ghost use Rattle.lanes_c.specs.Rooms.{Tells};
 ghost use Rattle.lanes_c.specs.declared.fault.Fault.TheVariants.{Refused};
@@ -10,9 +10,9 @@ use crate::fault::{Fault, NOT_OPEN, Place};
 use crate::parts_handle::FolderParts;
 use crate::room::{hand_out, hand_over};
 use crate::table_changes::tell;
-use crate::folder_turns::text;
+use crate::turn_calls::text;
 use crate::turn_handle::FolderTurn;
-use folder_replay::{Order, Turn};
+use folder_turns::{Order, Turn};
 use read_parts::ReadParts;
 use std::alloc::Global;
 use std::boxed::Box;

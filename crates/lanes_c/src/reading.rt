@@ -2,14 +2,14 @@
 ghost use Rattle.std.specs.Prelude.{◌≡◌, Ok};
 ghost use Rattle.lanes_c.specs.Calls.{Yields, check_of, query_of, dump_of, Asks};
 ghost use Rattle.lanes_c.specs.Rooms.{Tells, given_by};
-ghost use Rattle.replica_reading.specs.Dumps.{dumping};
+ghost use Rattle.replica_reports.specs.Dumps.{dumping};
 
 use crate::fault::{Fault, Place};
 use crate::opening::opened_file;
 use crate::room::hand_out;
 use crate::taking::{taken, text_of};
 use lanes_main::{check_file, query_file};
-use replica_reading::{OpenFile, dump};
+use replica_reports::{OpenFile, dump};
 use std::alloc::Global;
 use table_model::Counted;
 

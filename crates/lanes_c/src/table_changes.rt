@@ -13,7 +13,7 @@ use crate::shared::Shared;
 use crate::taking::text_of;
 use column_file::read_offer;
 use query_eval::HashKey;
-use replica_commands::{Load, apply_offers, import_load};
+use replica_changes::{Load, apply_offers, import_load};
 use replica_store::{Store, Summary};
 use std::alloc::Global;
 use std::boxed::Box;

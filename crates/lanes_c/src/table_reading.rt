@@ -1,8 +1,8 @@
 //! The calls that read the table of a handle: its file, its report, and how many batches it has.
 ghost use Rattle.std.specs.Prelude.{◌≡◌, IfOk, Ok};
-ghost use Rattle.replica_reading.specs.Digests.{held_digest};
-ghost use Rattle.replica_reading.specs.Held.{held_in};
-ghost use Rattle.replica_commands.specs.Commands.{as_held, file_of};
+ghost use Rattle.replica_reports.specs.Digests.{held_digest};
+ghost use Rattle.replica_reports.specs.Held.{held_in};
+ghost use Rattle.replica_changes.specs.Commands.{as_held, file_of};
 ghost use Rattle.lanes_c.specs.Calls.{Yields};
 ghost use Rattle.lanes_c.specs.Rooms.{given_by};
 ghost use Rattle.lanes_c.specs.TableReading.{CountsOpen, Inspects, IsReport, ReadsOpen, report_form};
@@ -14,7 +14,7 @@ use crate::room::hand_out;
 use crate::taking::taken;
 use answer_formats::ReportForm;
 use column_file::export;
-use replica_reading::{OpenFile, held_digest, inspect};
+use replica_reports::{OpenFile, held_digest, inspect};
 use replica_store::Store;
 use std::alloc::Global;
 use std::mem::replace;

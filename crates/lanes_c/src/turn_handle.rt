@@ -3,11 +3,11 @@ ghost use Rattle.std.specs.Prelude.{◌≡◌, MatchOption};
 ghost use Rattle.std.specs.Coded.{coded_option};
 ghost use Rattle.std.specs.declared.option.Option.{Option as Maybe};
 ghost use Rattle.std.specs.declared.option.Option.TheVariants.{None as Closed, Some as Open};
-ghost use Rattle.folder_replay.specs.Turns.{State, coded_state, state_of};
+ghost use Rattle.folder_turns.specs.Turns.{State, coded_state, state_of};
 ghost use Rattle.lanes_c.specs.TurnHandles.{turn_owns};
 
 use crate::loose::Loose;
-use folder_replay::Turn;
+use folder_turns::Turn;
 use std::alloc::Global;
 use std::boxed::Box;
 use std::marker::Model;

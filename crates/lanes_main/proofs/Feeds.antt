@@ -14,7 +14,7 @@ use Rattle.script_lines.specs.Word.{cut, longer}
 use Rattle.table_model.specs.Pieces.{pieces, onto_first}
 use Rattle.script_lines.specs.Line.{command_of}
 use Rattle.csv_rows.specs.Line.{line_limit}
-use Rattle.replica_reading.specs.QueryLines.{grown}
+use Rattle.replica_reports.specs.QueryLines.{grown}
 use Rattle.lanes_main.specs.Script.{line_answer, command_answer, line_text, after_line, lines_text, onto_line, script_text, text_from}
 use Rattle.cluster_history.specs.declared.reply.Reply.{Reply}
 use Rattle.cluster_history.specs.declared.reply.Reply.TheVariants.{Refused}

@@ -10,10 +10,10 @@ use Rattle.column_file.specs.Files.{canonical_read, checked_from, ranges_of}
 use Rattle.column_file.specs.Input.{Judges, IsReadWhole, StopsReading, is_refusal_of_reading}
 use Rattle.replica_store.specs.Exchange.{OfferForm, offering}
 use Rattle.replica_store.specs.Replica.{Replica}
-use Rattle.replica_reading.specs.Asking.{Report, WritesText, Tells, refused, checked_text, counts_of, is_refusal_of_answering}
-use Rattle.replica_reading.specs.Held.{held_in}
-use Rattle.replica_reading.proofs.AskedTexts.{front_none}
-use Rattle.replica_commands.proofs.RefusedOnFile.{or_command}
+use Rattle.replica_reports.specs.Asking.{Report, WritesText, Tells, refused, checked_text, counts_of, is_refusal_of_answering}
+use Rattle.replica_reports.specs.Held.{held_in}
+use Rattle.replica_reports.proofs.AskedTexts.{front_none}
+use Rattle.replica_changes.proofs.RefusedOnFile.{or_command}
 use Rattle.lanes_main.specs.FileReport.{checked_report, check_report, is_refusal_of_checking, is_refusal_of_querying, Reports, IsUnreported, EndsReport}
 use Rattle.lanes_main.proofs.Tellings.{appends_none}
 

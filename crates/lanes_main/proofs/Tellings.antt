@@ -15,7 +15,7 @@ use Rattle.table_model.specs.Pieces.{pieces}
 use Rattle.cluster_history.specs.declared.reply.Reply.TheVariants.{Refused}
 use Rattle.table_model.specs.declared.refusal.Refusal.{Refusal}
 use Rattle.table_model.specs.declared.refusal.Refusal.TheVariants.{Memory, ReadFault, WriteFault, LineTooLong}
-use Rattle.replica_reading.specs.ReadAndWritten.{IsReadAndWritten}
+use Rattle.replica_reports.specs.ReadAndWritten.{IsReadAndWritten}
 use Rattle.lanes_main.specs.Told.{Sofar, ToldFront, ToldAll, GoesOn, EndsEarly, Reached, IsStopped}
 use Rattle.lanes_main.proofs.Feeds.{script_start, long_from}
 use Rattle.lanes_main.proofs.WholeLines.{last_line, text_whole}

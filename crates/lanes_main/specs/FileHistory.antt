@@ -2,7 +2,7 @@
 use Rattle.std.specs.Prelude.{◌≡◌, ℕ, List, IsSome}
 use Rattle.table_model.specs.Operation.{Operation, SameOperations}
 use Rattle.table_model.specs.Table.{Table}
-use Rattle.replica_commands.specs.FileLaws.{Holds}
+use Rattle.replica_changes.specs.FileLaws.{Holds}
 use Rattle.cluster_history.specs.Cluster.{ClusterParts, new_cluster}
 use Rattle.cluster_history.specs.History.{new_taken, taken_of, taken_by, reply_to, replica_numbered}
 use Rattle.cluster_history.specs.Run.{Run}

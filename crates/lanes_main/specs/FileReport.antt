@@ -8,8 +8,8 @@ use Rattle.replica_store.specs.Replica.{Replica}
 use Rattle.column_file.specs.Files.{checked_from, opened_from}
 use Rattle.column_file.specs.FirstVersion.{opened_from_1}
 use Rattle.column_file.specs.Input.{is_refusal_of_reading}
-use Rattle.replica_reading.specs.Asking.{Report, refused, checked_text, answers_report, is_refusal_of_answering, Tells}
-use Rattle.replica_reading.specs.ReadAndWritten.{IsReadAndWritten}
+use Rattle.replica_reports.specs.Asking.{Report, refused, checked_text, answers_report, is_refusal_of_answering, Tells}
+use Rattle.replica_reports.specs.ReadAndWritten.{IsReadAndWritten}
 
 -- the line of a check, or the refusal in its place
 abbrev pub checked_report : Result (ℕ × ℕ) Refusal → Report

@@ -5,7 +5,7 @@ use Rattle.table_model.specs.Faults.{AppendsFront, GaveMore, Failed}
 use Rattle.table_model.specs.declared.refusal.Refusal.{Refusal}
 use Rattle.table_model.specs.declared.refusal.Refusal.TheVariants.{ReadFault}
 use Rattle.cluster_history.specs.Cluster.{ClusterParts}
-use Rattle.replica_reading.specs.ReadAndWritten.{IsReadAndWritten}
+use Rattle.replica_reports.specs.ReadAndWritten.{IsReadAndWritten}
 use Rattle.lanes_main.specs.Script.{lines_text, whole_lines, script_text, text_from}
 
 -- A part of the input with that number of bytes was read, and what was written is what the script's text begins with, whatever bytes

@@ -3,7 +3,7 @@ ghost use Rattle.std.specs.Prelude.{◌≡◌, ◌≢◌, IfErr};
 ghost use Rattle.table_model.specs.declared.refusal.Refusal.TheVariants.{WriteFault};
 ghost use Rattle.lanes_main.specs.FileReport.{check_report, is_refusal_of_checking, Reports, EndsReport};
 
-use replica_reading::{OpenFile, check};
+use replica_reports::{OpenFile, check};
 use std::alloc::Global;
 use std::io::{Read, Write};
 use table_model::{Counted, Refusal};

@@ -4,7 +4,7 @@ ghost use Rattle.table_model.specs.declared.refusal.Refusal.TheVariants.{ReadFau
 ghost use Rattle.lanes_main.specs.FileReport.{queries_report, is_refusal_of_querying, Reports, EndsReport};
 
 use answer_formats::Format;
-use replica_reading::{OpenFile, answer_all};
+use replica_reports::{OpenFile, answer_all};
 use std::alloc::Global;
 use std::io::{Read, Write};
 use table_model::{Counted, Refusal};

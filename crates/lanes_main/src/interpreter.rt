@@ -2,7 +2,7 @@
 ghost use Rattle.std.specs.Prelude.{◌≡◌, ◌<◌, ◌≤◌, length, ℕ, IfOk, IfErr, OnOk, OnErr};
 ghost use Rattle.std.specs.Io.KnownBytes.{IsAtEnd};
 ghost use Rattle.table_model.specs.Faults.{Failed};
-ghost use Rattle.replica_reading.specs.ReadAndWritten.{IsReadAndWritten};
+ghost use Rattle.replica_reports.specs.ReadAndWritten.{IsReadAndWritten};
 ghost use Rattle.lanes_main.specs.Script.{parts_in};
 ghost use Rattle.lanes_main.specs.Told.{Sofar, IsStopped, EndsScript, GoesOn, EndsEarly, StaysTold};
 

@@ -6,13 +6,13 @@ ghost use Rattle.cluster_history.specs.Run.{answered};
 ghost use Rattle.cluster_history.specs.Cluster.{step_of};
 ghost use Rattle.script_lines.specs.Word.{cut};
 ghost use Rattle.lanes_main.specs.Script.{parts_in, founded, first_answer, later_answer, line_answer, line_text, after_line, text_from};
-ghost use Rattle.replica_reading.specs.QueryLines.{grown};
+ghost use Rattle.replica_reports.specs.QueryLines.{grown};
 
 use crate::notes::Notes;
 use crate::reply_format::write_reply;
 use cluster_history::{Cluster, Reply, Step};
 use csv_rows::LINE_LIMIT;
-use replica_reading::LinePart;
+use replica_reports::LinePart;
 use script_lines::{Command, TableCommand, parse_line};
 use std::alloc::Global;
 use std::io::Write;

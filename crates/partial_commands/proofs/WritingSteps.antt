@@ -9,8 +9,8 @@ use Rattle.partial_answers.specs.declared.partial_answer.PartialAnswer.{PartialA
 use Rattle.column_file.specs.Files.{Exports}
 use Rattle.partial_file.specs.PartialAnswerBytes.{partial_answer_bytes}
 use Rattle.partial_file.specs.PartialAnswerReading.{has_bytes}
-use Rattle.replica_reading.specs.Asking.{is_refusal_of_answering}
-use Rattle.replica_commands.proofs.CommandSteps.{exported_put}
+use Rattle.replica_reports.specs.Asking.{is_refusal_of_answering}
+use Rattle.replica_changes.proofs.CommandSteps.{exported_put}
 use Rattle.store_view.specs.Asked.{is_refusal_of_query}
 use Rattle.partial_commands.specs.PartialAnswerWriting.{WritesPartialAnswer}
 use Rattle.partial_commands.specs.StorePartialAnswer.{PartialAnswerMeaning, meaning_of}

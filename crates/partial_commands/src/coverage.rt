@@ -2,7 +2,7 @@
 ghost use Rattle.std.specs.Prelude.{◌≡◌, ◌≢◌, ◌⊎◌, ◌++◌, Ok, IfOk, IfErr, OnOk};
 ghost use Rattle.table_model.specs.Faults.{CountsWrites};
 ghost use Rattle.table_model.specs.declared.refusal.Refusal.TheVariants.{Memory, WriteFault};
-ghost use Rattle.replica_reading.specs.Asking.{WritesText};
+ghost use Rattle.replica_reports.specs.Asking.{WritesText};
 ghost use Rattle.partial_commands.specs.Coverage.{groups_and_batches, held_and_strays, names_listed, partial_answer_coverage, summary_coverage, table_and_batches, table_and_query};
 
 use crate::run_lists::{push_run_lines, push_run_pairs};

@@ -1,7 +1,7 @@
 //! The answer that a partial answer finishes to, written as a text.
 ghost use Rattle.std.specs.Prelude.{OnOk, IfOk, IfErr};
 ghost use Rattle.table_model.specs.Faults.{GaveMore};
-ghost use Rattle.replica_reading.specs.ReadAndWritten.{IsReadAndWritten};
+ghost use Rattle.replica_reports.specs.ReadAndWritten.{IsReadAndWritten};
 ghost use Rattle.partial_commands.specs.PartialAnswerTurns.{CountsBothErrors, IsAnswerText, IsUnfinished, WritesAnswer};
 
 use crate::partial_answer_error::PartialAnswerError;

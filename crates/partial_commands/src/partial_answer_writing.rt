@@ -1,7 +1,7 @@
 //! The partial answer of a store, written as bytes.
 ghost use Rattle.std.specs.Prelude.{◌≡◌, IsTrue, OnOk, IfErr};
 ghost use Rattle.table_model.specs.Faults.{CountsWrites};
-ghost use Rattle.replica_reading.specs.Asking.{is_refusal_of_answering};
+ghost use Rattle.replica_reports.specs.Asking.{is_refusal_of_answering};
 ghost use Rattle.partial_commands.specs.PartialAnswerWriting.{WritesPartialAnswer};
 ghost use Rattle.partial_commands.specs.StorePartialAnswer.{query_partial_answer};
 

@@ -2,7 +2,7 @@
 
 use catalogue_join::Held;
 use column_file::{CONTAINER, read_head, read_name_count};
-use folder_home::HEAD_BYTES;
+use folder_parts::HEAD_BYTES;
 use std::alloc::Global;
 use std::mem::replace;
 use table_model::{BatchName, Number, Origin};

@@ -1,7 +1,7 @@
 //! What came of a change, and the line that says so.
 
-use file_home::{HeldRows, Left};
-use replica_commands::{Answer, Applied, Imported};
+use file_commands::{HeldRows, Left};
+use replica_changes::{Answer, Applied, Imported};
 use replica_store::Forgotten;
 use std::fmt;
 

@@ -4,7 +4,7 @@
 use crate::batch_names::BatchNames;
 use catalogue_join::Held;
 use column_file::read_schema;
-use folder_home::HEAD_BYTES;
+use folder_parts::HEAD_BYTES;
 use std::alloc::Global;
 use std::cell::Cell;
 use std::io::{self, Read};

@@ -5,7 +5,7 @@ use csv_rows::{CsvError, CsvReader, Dialect, Order, WordError};
 use program_failures::{Failure, unread};
 use program_inputs::{Host, Progress, source_of};
 use refusal_sentences::{CommandRefusal, Fields, Knowledge, Wanted, is_heading};
-use replica_commands::{Load, read_csv};
+use replica_changes::{Load, read_csv};
 use std::alloc::Global;
 use std::fs::Files;
 use std::io::Read;

@@ -1,12 +1,12 @@
 //! What a command says of what it changed.
 
 use crate::done::Done;
-use file_home::Left;
-use file_replacing::Replaced;
+use file_commands::Left;
+use file_protocol::Replaced;
 use program_failures::{Failure, write_line};
 use program_inputs::Home;
 use refusal_sentences::Printable;
-use replica_commands::Imported;
+use replica_changes::Imported;
 
 /// Says what came of a change, unless that is to be quiet. If that can't be written, the change is made all the same.
 pub fn say<R: Print + Eprint + AllocGlobal>(

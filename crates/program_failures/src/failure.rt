@@ -410,7 +410,7 @@ fn known_of_writing<R: Files>(rt: &R, name: &str) -> Knowledge<'static> {
     match fs::metadata(rt, name) {
         Ok(found) if found.is_dir() => Knowledge::Reason(ErrorKind::IsADirectory),
         Ok(_) => Knowledge::Nothing,
-        Err(_) => match fs::metadata(rt, file_replacing::folder_of(name)) {
+        Err(_) => match fs::metadata(rt, file_protocol::folder_of(name)) {
             Ok(found) if found.is_dir() => Knowledge::Nothing,
             Ok(_) => Knowledge::Reason(ErrorKind::NotADirectory),
             Err(error) => Knowledge::Reason(error.kind()),

@@ -1,7 +1,7 @@
 //! Why a file is not written.
 
 use crate::failure::Failure;
-use file_replacing::{HoldError, Place};
+use file_protocol::{HoldError, Place};
 use refusal_sentences::CommandRefusal;
 use std::fs::Files;
 use std::io::ErrorKind;

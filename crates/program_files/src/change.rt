@@ -1,10 +1,10 @@
 //! What a command changes in a file.
 
 use column_file::open;
-use file_home::Left;
-use file_replacing::{FileFolder, Place};
+use file_commands::Left;
+use file_protocol::{FileFolder, Place};
 use program_changes::{Done, Reply};
-use replica_commands::{Command, bring, file_schema};
+use replica_changes::{Command, bring, file_schema};
 use std::alloc::Global;
 use std::io::{self, Read};
 use table_model::{ColType, Counted, Origin, Refusal, RowName};
@@ -38,19 +38,19 @@ impl<'a> Change<'a> {
     ) -> Result<Done, Refusal> {
         let (answer, left) = match self {
             Change::Create { table, columns } => {
-                let replaced = file_home::create(alloc, folder, place, table, columns)?;
+                let replaced = file_commands::create(alloc, folder, place, table, columns)?;
                 (Reply::Created, Left::Changed(replaced))
             }
             Change::Add(command) => {
-                let done = file_home::change(alloc, folder, place, command)?;
+                let done = file_commands::change(alloc, folder, place, command)?;
                 (Reply::Added(done.answer), done.left)
             }
             Change::DeleteHeldRows { first, last } => {
-                let done = file_home::delete_held_rows(alloc, folder, place, first, last)?;
+                let done = file_commands::delete_held_rows(alloc, folder, place, first, last)?;
                 (Reply::DeletedHeldRows(done.answer), done.left)
             }
             Change::Forget => {
-                let done = file_home::forget(alloc, folder, place)?;
+                let done = file_commands::forget(alloc, folder, place)?;
                 (Reply::Forgotten(done.answer), done.left)
             }
         };
@@ -62,13 +62,13 @@ impl<'a> Change<'a> {
         let mut nowhere = Counted::new(io::sink());
         match self {
             Change::Create { table, columns } => {
-                replica_commands::create(alloc, table, columns, &mut nowhere)
+                replica_changes::create(alloc, table, columns, &mut nowhere)
             }
             Change::Add(command) => judge_command(alloc, reader, command),
             Change::DeleteHeldRows { first, last } => {
                 judge_command(alloc, reader, Command::DeleteRows { first, last })
             }
-            Change::Forget => replica_commands::forget(alloc, reader, &mut nowhere).map(|_| ()),
+            Change::Forget => replica_changes::forget(alloc, reader, &mut nowhere).map(|_| ()),
         }
     }
 

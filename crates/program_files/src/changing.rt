@@ -4,14 +4,14 @@ use crate::change::Change;
 use crate::schemas::{schema_ahead, schema_of};
 use crate::watched_folder::WatchedFolder;
 use command_line::{CsvForm, Source};
-use file_replacing::{FileFolder, Place, SystemFileFolder};
+use file_protocol::{FileFolder, Place, SystemFileFolder};
 use program_changes::{
     DRAWS, Done, Headed, Heads, OfferTables, load_of, random_words, read_offers,
 };
 use program_failures::{Failure, Unheld, not_written, of_other_table, unlocked};
 use program_inputs::{Host, LazyFile, LockedReading, Progress, is_there, reader_of};
 use refusal_sentences::{CommandRefusal, is_of_a_text};
-use replica_commands::Command;
+use replica_changes::Command;
 use std::fs::Files;
 use table_model::{BatchName, ColType, Counted, Refusal, RowName, Schema};
 

@@ -1,8 +1,8 @@
 //! The file that a merge writes.
 
 use crate::watched_folder::WatchedFolder;
-use file_home::{Left, leave, put};
-use file_replacing::{Place, SystemFileFolder, Unwatched, keep};
+use file_commands::{Left, leave, put};
+use file_protocol::{Place, SystemFileFolder, Unwatched, keep};
 use program_failures::{Failure, Unheld, not_written, unlocked};
 use std::alloc::AllocError;
 use std::fs::{self, File, Files};

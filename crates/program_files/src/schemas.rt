@@ -1,11 +1,11 @@
 //! The schema of a file, for what is read before the file is changed.
 
-use folder_home::HEAD_BYTES;
+use folder_parts::HEAD_BYTES;
 use program_changes::schema_in;
 use program_failures::Failure;
 use program_inputs::{LazyFile, read_front, reader_of};
 use refusal_sentences::CommandRefusal;
-use replica_commands::file_schema;
+use replica_changes::file_schema;
 use std::fs::Files;
 use table_model::Schema;
 

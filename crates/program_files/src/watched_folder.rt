@@ -1,6 +1,6 @@
 //! A folder that remembers why the system did not do what was asked of it, and what the file began with that was read.
 
-use file_replacing::{FileFolder, HoldError, Place, hold};
+use file_protocol::{FileFolder, HoldError, Place, hold};
 use program_changes::Head;
 use program_failures::Unheld;
 use std::alloc::Global;

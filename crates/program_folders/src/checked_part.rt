@@ -1,8 +1,8 @@
 //! A part that is compared with its name before anything is read from it.
 
-use folder_home::is_part;
+use folder_parts::is_part;
 use folder_protocol::Folder;
-use part_folder::SystemFolder;
+use folder_system::SystemFolder;
 use program_inputs::Host;
 use std::io::{self, ErrorKind, Read};
 

@@ -8,15 +8,15 @@ use crate::part_heads::read_heads;
 use crate::putting::{make_folder, put_part, put_relying};
 use catalogue_join::Held;
 use command_line::{CsvForm, Source};
-use file_home::{HeldRows, Left};
+use file_commands::{HeldRows, Left};
 use folder_commands::Reliance;
-use folder_home::{check_room, part_alone, part_of};
+use folder_parts::{check_room, part_alone, part_of};
 use program_changes::{Done, OfferTables, Reply, load_of, random_words, read_offers};
 use program_failures::{Failure, of_other_table};
 use program_inputs::{Host, Progress, is_there};
 use refusal_sentences::{CommandRefusal, is_of_a_text};
-use replica_commands::Command;
-use replica_reading::OpenFile;
+use replica_changes::Command;
+use replica_reports::OpenFile;
 use replica_store::{Offer, Store};
 use std::alloc::{AllocError, Global};
 use table_model::{BatchName, ColType, Counted, Refusal, RowName, Schema};
@@ -32,7 +32,7 @@ pub fn create<R: Host>(
         return Err(Failure::of_file(rt, CommandRefusal::Exists, folder));
     }
     let mut writer = Counted::new(Vec::new(rt.alloc()));
-    match replica_commands::create(rt.alloc(), table, columns, &mut writer) {
+    match replica_changes::create(rt.alloc(), table, columns, &mut writer) {
         Ok(()) => {}
         Err(Refusal::BadSchema) => return Err(Failure::of_names(rt.alloc(), table, columns)),
         Err(refusal) => return Err(unmade(rt, folder, refusal)),

@@ -1,15 +1,15 @@
 //! What judges the parts that came to a folder: whether a new part goes with them.
 ghost use Rattle.std.specs.Prelude.{◌≡◌, ◌⊎◌, ℕ, List, map, true, false};
 ghost use Rattle.std.specs.String.{string_bytes};
-ghost use Rattle.folder_history.specs.Disk.{Among};
+ghost use Rattle.folder_model.specs.Disk.{Among};
 ghost use Rattle.folder_protocol.specs.Note.{calls_of};
 ghost use Rattle.folder_protocol.specs.Taking.{bytes_read};
-ghost use Rattle.folder_home.specs.PartName.{part_name, is_part_name};
+ghost use Rattle.folder_parts.specs.PartName.{part_name, is_part_name};
 
 use crate::part_failures::{of_other_table, refused};
-use folder_home::{Part, PartFault, is_part, is_part_name, join_parts, part_name};
+use folder_parts::{Part, PartFault, is_part, is_part_name, join_parts, part_name};
 use folder_protocol::{Record, Taker, has_name};
-use part_folder::path_in;
+use folder_system::path_in;
 use program_changes::{Headed, Heads};
 use program_failures::Failure;
 use refusal_sentences::CommandRefusal;

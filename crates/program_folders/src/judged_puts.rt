@@ -5,17 +5,17 @@ use crate::judge::Judge;
 use crate::part_failures::{busy, unkept};
 use crate::putting::{kept, new_temporary, put_relying};
 use crate::told_folder::ToldFolder;
-use file_home::Left;
-use file_replacing::Replaced;
+use file_commands::Left;
+use file_protocol::Replaced;
 use folder_commands::keep_and_put_judged;
-use folder_home::part_name;
+use folder_parts::part_name;
 use folder_protocol::{Untaken, take_all};
-use part_folder::{FolderFault, SystemFolder};
+use folder_system::{FolderFault, SystemFolder};
 use patience::Patience;
 use program_changes::Done;
 use program_failures::Failure;
 use program_inputs::Host;
-use replica_commands::Answer;
+use replica_changes::Answer;
 use std::io::ErrorKind;
 
 /// Puts the part of a command once it goes with all that is there, or has the parts that were read on the disk if there is nothing to

@@ -8,11 +8,11 @@ use crate::rounds::Rounds;
 use crate::told_folder::ToldFolder;
 use command_line::{CsvForm, Source};
 use folder_commands::{Reliance, Skimmed};
-use folder_home::{LoadNames, SkimmedParts, part_of};
+use folder_parts::{LoadNames, SkimmedParts, part_of};
 use program_changes::{Done, load_of};
 use program_failures::Failure;
 use program_inputs::{Host, Progress};
-use replica_commands::Command;
+use replica_changes::Command;
 use replica_store::Store;
 use table_model::{BatchName, Counted};
 

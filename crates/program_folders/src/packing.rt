@@ -5,7 +5,7 @@ use crate::part_failures::{Unread, busy, unread_part};
 use crate::putting::new_temporary;
 use crate::replacing::{Round, round_of};
 use crate::told_folder::ToldFolder;
-use folder_home::packed_prefix;
+use folder_parts::packed_prefix;
 use folder_protocol::{Found, Looks};
 use patience::Patience;
 use program_changes::say_line;

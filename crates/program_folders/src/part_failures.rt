@@ -1,7 +1,7 @@
 //! Why the parts of a folder are refused, with the names of those that are at fault.
 
-use folder_home::PartFault;
-use part_folder::{FolderFault, SystemFolder, path_in};
+use folder_parts::PartFault;
+use folder_system::{FolderFault, SystemFolder, path_in};
 use program_changes::Heads;
 use program_failures::{Failure, TOO_MANY_FILES};
 use refusal_sentences::CommandRefusal;

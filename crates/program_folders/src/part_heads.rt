@@ -4,7 +4,7 @@ use crate::folders::{Parts, SystemRound};
 use crate::part_failures::{Unread, at_place, busy};
 use crate::rounds::Rounds;
 use crate::told_folder::ToldFolder;
-use folder_home::{HEAD_BYTES, Head, Part, PartFault, compare_part, part_head};
+use folder_parts::{HEAD_BYTES, Head, Part, PartFault, compare_part, part_head};
 use folder_protocol::{Looks, Opened};
 use program_failures::Failure;
 use program_inputs::{Host, Watched, read_front};

@@ -2,12 +2,12 @@
 
 use crate::part_failures::unwritten;
 use crate::told_folder::ToldFolder;
-use file_home::Left;
-use file_replacing::Replaced;
+use file_commands::Left;
+use file_protocol::Replaced;
 use folder_commands::keep_and_put;
-use folder_home::part_name;
+use folder_parts::part_name;
 use folder_protocol::{self, Folder, Outcome};
-use part_folder::{MakeFault, SystemFolder, make, path_in, temporary_name};
+use folder_system::{MakeFault, SystemFolder, make, path_in, temporary_name};
 use program_failures::Failure;
 use program_inputs::Host;
 use refusal_sentences::CommandRefusal;

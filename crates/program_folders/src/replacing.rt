@@ -1,7 +1,7 @@
 //! What came of putting a part in the place of those that it was made of, under the folder's exclusive lock.
 
 use crate::putting::kept;
-use file_replacing::Replaced;
+use file_protocol::Replaced;
 use program_failures::Failure;
 use program_inputs::Host;
 use refusal_sentences::CommandRefusal;

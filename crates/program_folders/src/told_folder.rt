@@ -3,9 +3,9 @@
 ghost use Rattle.std.specs.Prelude.{◌≡◌};
 
 use crate::part_failures::{Unread, of_folder, refused, unkept, unread_for, unwritten};
-use folder_home::{PartFault, PartRefusal, is_part_name};
+use folder_parts::{PartFault, PartRefusal, is_part_name};
 use folder_protocol::{Folder, Found, Looks, Opened, Sweeps, Untaken};
-use part_folder::{FolderFault, SystemFolder, path_in};
+use folder_system::{FolderFault, SystemFolder, path_in};
 use program_changes::Heads;
 use program_failures::Failure;
 use program_inputs::{Host, Progress};

@@ -1,7 +1,7 @@
 //! How far the reading of a command is, for a person who waits at a terminal.
 
 use command_line::Source;
-use file_replacing::ReadWatch;
+use file_protocol::ReadWatch;
 use refusal_sentences::Printable;
 use std::cell::Cell;
 use std::fmt;

@@ -3,21 +3,21 @@ use Rattle.std.specs.Prelude.{◌≡◌, ℕ, true, List, [], ◌∷◌, ◌++�
 use Rattle.std.proofs.Common.{refl, sym, ap, subst, ◌∙◌, inl, inr}
 use Rattle.std.proofs.lemmas.List.{reverse-append, map-append}
 use Rattle.table_model.specs.declared.refusal.Refusal.{Refusal}
-use Rattle.folder_history.specs.Call.{Call, Read, can_settle}
-use Rattle.folder_history.specs.Disk.{Among}
-use Rattle.folder_history.specs.Parts.{IsNoPart}
+use Rattle.folder_model.specs.Call.{Call, Read, can_settle}
+use Rattle.folder_model.specs.Disk.{Among}
+use Rattle.folder_model.specs.Parts.{IsNoPart}
 use Rattle.folder_protocol.specs.Taking.{bytes_read}
-use Rattle.folder_replay.specs.Orders.{Matter, MayTake, matter_of}
-use Rattle.folder_replay.specs.declared.order.Order.{Order}
-use Rattle.folder_replay.specs.declared.order.Task.{Task}
-use Rattle.folder_replay.specs.declared.order.Task.TheVariants.{Replace}
+use Rattle.folder_turns.specs.Orders.{Matter, MayTake, matter_of}
+use Rattle.folder_turns.specs.declared.order.Order.{Order}
+use Rattle.folder_turns.specs.declared.order.Task.{Task}
+use Rattle.folder_turns.specs.declared.order.Task.TheVariants.{Replace}
 use Rattle.replica_store.specs.Replica.{Replica}
-use Rattle.replica_reading.specs.Held.{held_in}
-use Rattle.replica_commands.specs.Commands.{file_of, as_held}
-use Rattle.replica_commands.specs.Forgetting.{forgetting}
-use Rattle.folder_home.specs.Covers.{folder_home}
-use Rattle.folder_home.specs.PartName.{part_name}
-use Rattle.folder_home.specs.Parts.{JoinsPart, OpensPart}
+use Rattle.replica_reports.specs.Held.{held_in}
+use Rattle.replica_changes.specs.Commands.{file_of, as_held}
+use Rattle.replica_changes.specs.Forgetting.{forgetting}
+use Rattle.folder_parts.specs.Covers.{folder_parts}
+use Rattle.folder_parts.specs.PartName.{part_name}
+use Rattle.folder_parts.specs.Parts.{JoinsPart, OpensPart}
 use Rattle.folder_commands.specs.Joined.{AreRead}
 use Rattle.folder_commands.specs.Replacing.{AreCoveredBy}
 use Rattle.folder_commands.proofs.Replacings.{are_joined, pack_covered, forget_covered}
@@ -75,8 +75,8 @@ are_read whole files before (first, others, is, made) read = record {
 }
 
 -- what covers them may come in their place
-may_replace : (temporary bytes : List ℕ) (names : List (List ℕ)) (before : List Call) → can_settle before ≡ true → IsNoPart folder_home temporary → AreCoveredBy [] names bytes before
-    → MayTake Replace (matter_replacing temporary names bytes) folder_home before
+may_replace : (temporary bytes : List ℕ) (names : List (List ℕ)) (before : List Call) → can_settle before ≡ true → IsNoPart folder_parts temporary → AreCoveredBy [] names bytes before
+    → MayTake Replace (matter_replacing temporary names bytes) folder_parts before
 may_replace temporary bytes names before clean free covered = (clean, (refl, free, are_joined [] names bytes (part_name bytes) _ before refl refl covered))
 
 -- a pack may be followed

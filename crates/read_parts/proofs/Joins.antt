@@ -4,13 +4,13 @@ use Rattle.std.proofs.Common.{refl, sym, ap, subst, ◌∙◌, inl, inr, ⊎_eli
 use Rattle.std.proofs.lemmas.List.{reverse-append}
 use Rattle.table_model.specs.Reading.{◌>>=◌}
 use Rattle.table_model.specs.declared.refusal.Refusal.{Refusal}
-use Rattle.folder_history.specs.Disk.{Among}
+use Rattle.folder_model.specs.Disk.{Among}
 use Rattle.replica_store.specs.Replica.{Replica}
-use Rattle.replica_reading.specs.Held.{held_in}
-use Rattle.replica_commands.specs.Commands.{merged_with}
-use Rattle.replica_commands.proofs.FileLaws.{bound_parts}
-use Rattle.folder_home.specs.Parts.{OpensPart, JoinsPart}
-use Rattle.folder_home.proofs.JoinedSoFar.{merged_more}
+use Rattle.replica_reports.specs.Held.{held_in}
+use Rattle.replica_changes.specs.Commands.{merged_with}
+use Rattle.replica_changes.proofs.FileLaws.{bound_parts}
+use Rattle.folder_parts.specs.Parts.{OpensPart, JoinsPart}
+use Rattle.folder_parts.proofs.JoinedSoFar.{merged_more}
 use Rattle.read_parts.specs.Joined.{IsJoinOf}
 
 -- the first part

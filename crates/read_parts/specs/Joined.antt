@@ -1,7 +1,7 @@
 -- What parts hold together that were read one after another.
 use Rattle.std.specs.Prelude.{◌≡◌, ℕ, List, ◌∷◌, reverse, Ok}
 use Rattle.replica_store.specs.Replica.{Replica}
-use Rattle.replica_commands.specs.Commands.{merged_files}
+use Rattle.replica_changes.specs.Commands.{merged_files}
 
 -- what was joined of the files that were taken, of which the newest is told first
 abbrev pub IsJoinOf : Replica → List (List ℕ) → Type 0

@@ -1,25 +1,25 @@
 -- The orders of a pack and a forget of parts that were read, and when they may be followed.
 use Rattle.std.specs.Prelude.{◌≡◌, ℕ, true, List, [], filter, map, reverse, MatchOption, Ok}
-use Rattle.folder_history.specs.Call.{Call, can_settle}
-use Rattle.folder_history.specs.Disk.{Among}
-use Rattle.folder_history.specs.Parts.{IsNoPart}
-use Rattle.folder_history.specs.Turn.{HasRead}
-use Rattle.folder_replay.specs.Orders.{Matter, MayTake, matter_of}
-use Rattle.folder_replay.specs.declared.order.Order.{Order}
-use Rattle.folder_replay.specs.declared.order.Task.{Task}
-use Rattle.folder_replay.specs.declared.order.Task.TheVariants.{Replace}
+use Rattle.folder_model.specs.Call.{Call, can_settle}
+use Rattle.folder_model.specs.Disk.{Among}
+use Rattle.folder_model.specs.Parts.{IsNoPart}
+use Rattle.folder_model.specs.Turn.{HasRead}
+use Rattle.folder_turns.specs.Orders.{Matter, MayTake, matter_of}
+use Rattle.folder_turns.specs.declared.order.Order.{Order}
+use Rattle.folder_turns.specs.declared.order.Task.{Task}
+use Rattle.folder_turns.specs.declared.order.Task.TheVariants.{Replace}
 use Rattle.replica_store.specs.Replica.{Replica}
-use Rattle.replica_reading.specs.Held.{held_in}
-use Rattle.replica_commands.specs.Commands.{file_of, as_held}
-use Rattle.replica_commands.specs.Forgetting.{forgetting}
-use Rattle.folder_home.specs.Covers.{folder_home}
-use Rattle.folder_home.specs.PartName.{part_name}
+use Rattle.replica_reports.specs.Held.{held_in}
+use Rattle.replica_changes.specs.Commands.{file_of, as_held}
+use Rattle.replica_changes.specs.Forgetting.{forgetting}
+use Rattle.folder_parts.specs.Covers.{folder_parts}
+use Rattle.folder_parts.specs.PartName.{part_name}
 use Rattle.folder_commands.specs.Wanted.{goes}
 use Rattle.read_parts.specs.declared.parts.Forget.{Forget}
 
 -- each of these files was read in a history, under the name of its bytes
 abbrev pub WereRead : List (List ℕ) → List Call → Type 0
-WereRead files before = (file : List ℕ) → Among file files → HasRead folder_home file before
+WereRead files before = (file : List ℕ) → Among file files → HasRead folder_parts file before
 
 -- the names of files, of which the newest is told first
 abbrev pub names_of : List (List ℕ) → List (List ℕ)
@@ -44,4 +44,4 @@ Forgets f temporary whole files =
 -- It may be followed after every history in which these files were read and no sync of the folder has failed, if the temporary's name is no
 -- part's.
 abbrev pub MayFollow : Task → Matter → List (List ℕ) → Type 0
-MayFollow task matter files = (before : List Call) → can_settle before ≡ true → WereRead files before → IsNoPart folder_home matter.temporary → MayTake task matter folder_home before
+MayFollow task matter files = (before : List Call) → can_settle before ≡ true → WereRead files before → IsNoPart folder_parts matter.temporary → MayTake task matter folder_parts before

@@ -1,19 +1,19 @@
 //! Parts of a folder that were read, one after another.
 ghost use Rattle.std.specs.Prelude.{◌≡◌, ◌==◌, ◌++◌, [], ◌∷◌, not, true, Ok, IfOk, MatchOption, map, string_bytes};
 ghost use Rattle.table_model.specs.Outcome.{Gives};
-ghost use Rattle.folder_replay.specs.Orders.{matter_of};
-ghost use Rattle.folder_replay.specs.declared.order.Task.TheVariants.{Replace};
-ghost use Rattle.folder_home.specs.Parts.{OpensPart, JoinsPart};
+ghost use Rattle.folder_turns.specs.Orders.{matter_of};
+ghost use Rattle.folder_turns.specs.declared.order.Task.TheVariants.{Replace};
+ghost use Rattle.folder_parts.specs.Parts.{OpensPart, JoinsPart};
 ghost use Rattle.replica_store.specs.Replica.{Replica};
-ghost use Rattle.replica_reading.specs.Held.{held_in};
-ghost use Rattle.replica_commands.specs.Commands.{as_held, file_of};
-ghost use Rattle.replica_commands.specs.Forgetting.{forgetting};
+ghost use Rattle.replica_reports.specs.Held.{held_in};
+ghost use Rattle.replica_changes.specs.Commands.{as_held, file_of};
+ghost use Rattle.replica_changes.specs.Forgetting.{forgetting};
 ghost use Rattle.read_parts.specs.Orders.{Forgets, MayFollow, Replaces, matter_replacing};
 
 use folder_commands::{file_of, left_of, names_for};
-use folder_home::{Join, PartFault};
+use folder_parts::{Join, PartFault};
 use folder_protocol::Record;
-use folder_replay::{Order, Task};
+use folder_turns::{Order, Task};
 use replica_store::{Forgotten, Store};
 use std::alloc::{AllocError, Global};
 use std::marker::Model;

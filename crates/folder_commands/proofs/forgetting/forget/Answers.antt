@@ -5,8 +5,8 @@ use Rattle.folder_protocol.proofs.Causing.{follows_none}
 use Rattle.folder_protocol.proofs.Lines.{joins}
 use Rattle.folder_protocol.proofs.TakeLines.{untaken_later}
 use Rattle.replica_store.specs.declared.store.Store.{Store}
-use Rattle.replica_commands.specs.Forgetting.{forgetting}
-use Rattle.folder_home.specs.Covers.{folder_home}
+use Rattle.replica_changes.specs.Forgetting.{forgetting}
+use Rattle.folder_parts.specs.Covers.{folder_parts}
 use Rattle.folder_commands.specs.Joined.{IsReadAs}
 use Rattle.folder_commands.specs.Replacing.{LeavesForgotten}
 use Rattle.folder_commands.proofs.Commands.{follows, forget_covers, forgets_none, forgets_some, is_some, were_given, unwanted}
@@ -32,7 +32,7 @@ returns-in-Ok-replace_read-clause-in_turn g c = λ temp.
     let read = subst (λ l. IsReadAs passed (map string_bytes l) (held c.in-Ok.read.held) mid) (sym c.as_slice.ensures.value) c.in-Ok.ensures.read in
     let covered = forget_covers passed (map string_bytes c.as_slice.result.now) (held c.in-Ok.read.held) c.in-Some.store.replica left.0 (c.in-Ok-left_of.both.0.batches, c.in-Ok-left_of.both.0.rows) c.as_slice-2.result.now mid
     (ap held c.in-Some.is) read forgot (c.as_slice-2.ensures.value ∙ written.0, written.1) in
-    joins folder_home _ _ _ c.read_folder.ensures.in_turn (c.replace_read.ensures.in_turn temp covered)
+    joins folder_parts _ _ _ c.read_folder.ensures.in_turn (c.replace_read.ensures.in_turn temp covered)
 
 pub returns-in-Ok-replace_read-clause-forgot : goal.returns-in-Ok-replace_read-clause-forgot
 returns-in-Ok-replace_read-clause-forgot g c =
@@ -63,7 +63,7 @@ returns-clause-in_turn g c = λ temp.
     let read = subst (λ l. IsReadAs passed (map string_bytes l) (held c.in-Ok.read.held) mid) (sym c.as_slice.ensures.value) c.in-Ok.ensures.read in
     let covered = forget_covers passed (map string_bytes c.as_slice.result.now) (held c.in-Ok.read.held) c.in-Some.store.replica left.0 (c.in-Ok-left_of.both.0.batches, c.in-Ok-left_of.both.0.rows) c.as_slice-2.result.now mid
     (ap held c.in-Some.is) read forgot (c.as_slice-2.ensures.value ∙ written.0, written.1) in
-    joins folder_home _ _ _ c.read_folder.ensures.in_turn (c.replace_read.ensures.in_turn temp covered)
+    joins folder_parts _ _ _ c.read_folder.ensures.in_turn (c.replace_read.ensures.in_turn temp covered)
 
 pub returns-in-None-clause-none : goal.returns-in-None-clause-none
 returns-in-None-clause-none g c = λ none.

@@ -1,15 +1,15 @@
 -- One part after another is read and taken, or passed over.
 use Rattle.std.specs.Prelude.{◌+◌, List, [], ◌≡◌, true, false, map, take, filter, string_bytes}
 use Rattle.std.proofs.Common.{sym, ap, subst, ◌∙◌, arith}
-use Rattle.folder_history.specs.Call.{Call}
-use Rattle.folder_history.specs.Turn.{listing_of}
+use Rattle.folder_model.specs.Call.{Call}
+use Rattle.folder_model.specs.Turn.{listing_of}
 use Rattle.folder_protocol.specs.Goes.{GoesInTurn}
 use Rattle.folder_protocol.specs.Linking.{GoesPlainly}
 use Rattle.folder_protocol.proofs.Lines.{joins}
 use Rattle.folder_protocol.proofs.Linking.{plain_more}
 use Rattle.folder_protocol.proofs.TakeLines.{untaken_later}
-use Rattle.folder_home.specs.Covers.{folder_home}
-use Rattle.folder_home.specs.declared.fault.PartRefusal.{PartRefusal}
+use Rattle.folder_parts.specs.Covers.{folder_parts}
+use Rattle.folder_parts.specs.declared.fault.PartRefusal.{PartRefusal}
 use Rattle.folder_commands.specs.ReadParts.{AreReadSoFar, More, ReadsOne, StopsReading}
 use Rattle.folder_commands.specs.Wanted.{is_wanted}
 use Rattle.folder_commands.proofs.ReadParts.{if_refused, read_next, read_over, read_stops}
@@ -17,7 +17,7 @@ use Rattle.folder_commands.proofs.gathering.gather_each.Goals as goal
 use Rattle.folder_commands.proofs.gathering.gather_each.Goals.{then-is_wanted+in-Ok, else-is_wanted}
 
 pub returns-in-Err-clause-in_turn : goal.returns-in-Err-clause-in_turn
-returns-in-Err-clause-in_turn g c = joins folder_home _ _ _ c.loop-index.invariant.goes c.gather_one.ensures.in_turn
+returns-in-Err-clause-in_turn g c = joins folder_parts _ _ _ c.loop-index.invariant.goes c.gather_one.ensures.in_turn
 
 pub returns-in-Err-clause-refused : goal.returns-in-Err-clause-refused
 returns-in-Err-clause-refused g c = λ begun.
@@ -61,7 +61,7 @@ loop-index-preserved g c =
           let passes : p (string_bytes c.index-listed-index.result) ≡ true = ap p (sym name) ∙ sym c.is_wanted.ensures ∙ w.if-is_wanted.true in
           record {
             plain = subst (λ (h : List Call). GoesPlainly before h) (sym still) (plain_more before mid after so.plain w.gather_one.ensures.plain);
-            goes = subst (λ (h : List Call). GoesInTurn folder_home before h) (sym still) (joins folder_home before mid after so.goes w.gather_one.ensures.in_turn);
+            goes = subst (λ (h : List Call). GoesInTurn folder_parts before h) (sym still) (joins folder_parts before mid after so.goes w.gather_one.ensures.in_turn);
             listing = ap listing_of still ∙ w.gather_one.ensures.listing ∙ so.listing;
             few = let few = so.few in let more = w.count-is in omega (arith, few, more);
             read = λ begun.
@@ -74,7 +74,7 @@ loop-index-preserved g c =
           let fails : p (string_bytes c.index-listed-index.result) ≡ false = ap p (sym name) ∙ sym c.is_wanted.ensures ∙ w.if-is_wanted.false in
           record {
             plain = subst (λ (h : List Call). GoesPlainly before h) (sym still) so.plain;
-            goes = subst (λ (h : List Call). GoesInTurn folder_home before h) (sym still) so.goes;
+            goes = subst (λ (h : List Call). GoesInTurn folder_parts before h) (sym still) so.goes;
             listing = ap listing_of still ∙ so.listing;
             few = let few = so.few in let same = w.count-is in omega (arith, few, same);
             read = λ begun.

@@ -5,17 +5,17 @@ use Rattle.folder_protocol.proofs.Causing.{has_now}
 use Rattle.folder_protocol.proofs.Lines.{starts, goes_on}
 use Rattle.folder_protocol.proofs.Linking.{plain_none, plain_on}
 use Rattle.folder_protocol.proofs.ReadLines.{unopened}
-use Rattle.folder_home.specs.Covers.{folder_home}
+use Rattle.folder_parts.specs.Covers.{folder_parts}
 use Rattle.folder_commands.proofs.gathering.gather_one.Goals as goal
 
 pub returns-in-Ok-clause-in_turn : goal.returns-in-Ok-clause-in_turn
-returns-in-Ok-clause-in_turn g c = goes_on folder_home _ _ _ _ (starts folder_home _) c.in-Ok-Some.ensures tt
+returns-in-Ok-clause-in_turn g c = goes_on folder_parts _ _ _ _ (starts folder_parts _) c.in-Ok-Some.ensures tt
 
 pub returns-in-Ok-Some-clause-in_turn : goal.returns-in-Ok-Some-clause-in_turn
-returns-in-Ok-Some-clause-in_turn g c = goes_on folder_home _ _ _ _ (starts folder_home _) c.in-Ok-Some.ensures tt
+returns-in-Ok-Some-clause-in_turn g c = goes_on folder_parts _ _ _ _ (starts folder_parts _) c.in-Ok-Some.ensures tt
 
 pub returns-in-Ok-None-clause-in_turn : goal.returns-in-Ok-None-clause-in_turn
-returns-in-Ok-None-clause-in_turn g c = goes_on folder_home _ _ _ _ (starts folder_home _) c.in-Ok-None.ensures tt
+returns-in-Ok-None-clause-in_turn g c = goes_on folder_parts _ _ _ _ (starts folder_parts _) c.in-Ok-None.ensures tt
 
 pub returns-in-Ok-None-clause-cause : goal.returns-in-Ok-None-clause-cause
 returns-in-Ok-None-clause-cause g c = (
@@ -24,7 +24,7 @@ returns-in-Ok-None-clause-cause g c = (
 )
 
 pub returns-clause-in_turn : goal.returns-clause-in_turn
-returns-clause-in_turn g c = goes_on folder_home _ _ _ _ (starts folder_home _) c.in-Err.ensures tt
+returns-clause-in_turn g c = goes_on folder_parts _ _ _ _ (starts folder_parts _) c.in-Err.ensures tt
 
 pub returns-clause-cause : goal.returns-clause-cause
 returns-clause-cause g c = has_now Fails _ _ _ c.in-Err.ensures refl

@@ -5,7 +5,7 @@ use Rattle.folder_protocol.proofs.Lines.{joins}
 use Rattle.folder_protocol.proofs.Linking.{plain_lock}
 use Rattle.folder_protocol.proofs.TakeLines.{untaken_later}
 use Rattle.replica_store.specs.declared.store.Store.{Store}
-use Rattle.folder_home.specs.Covers.{folder_home}
+use Rattle.folder_parts.specs.Covers.{folder_parts}
 use Rattle.folder_commands.proofs.Commands.{pack_covers, packs}
 use Rattle.folder_commands.proofs.Temporaries.{no_temporary}
 use Rattle.folder_commands.proofs.packing.pack.Goals as goal
@@ -16,7 +16,7 @@ returns-in-Ok-replace_read-clause-in_turn g c = λ temp.
     let mid = g.F.Folder.history c.read_named.new.folder in
     let covered = pack_covers [] (map string_bytes c.args.names.now) (held c.in-Ok-Some.field-0) c.in-Ok-Some.store.replica c.as_slice.result.now mid (ap held c.in-Ok-Some.field-0-is) c.in-Ok-Some.ensures.read
     (c.as_slice.ensures.value ∙ c.in-Ok.ensures.file, c.in-Ok.ensures.read) in
-    joins folder_home _ _ _ c.read_named.ensures.in_turn (c.replace_read.ensures.in_turn temp covered)
+    joins folder_parts _ _ _ c.read_named.ensures.in_turn (c.replace_read.ensures.in_turn temp covered)
 
 pub returns-in-Ok-replace_read-clause-packed : goal.returns-in-Ok-replace_read-clause-packed
 returns-in-Ok-replace_read-clause-packed g c =
@@ -34,7 +34,7 @@ returns-clause-in_turn g c = λ temp.
     let mid = g.F.Folder.history c.read_named.new.folder in
     let covered = pack_covers [] (map string_bytes c.args.names.now) (held c.in-Ok-Some.field-0) c.in-Ok-Some.store.replica c.as_slice.result.now mid (ap held c.in-Ok-Some.field-0-is) c.in-Ok-Some.ensures.read
     (c.as_slice.ensures.value ∙ c.in-Ok.ensures.file, c.in-Ok.ensures.read) in
-    joins folder_home _ _ _ c.read_named.ensures.in_turn (c.replace_read.ensures.in_turn temp covered)
+    joins folder_parts _ _ _ c.read_named.ensures.in_turn (c.replace_read.ensures.in_turn temp covered)
 
 pub returns-clause-cause : goal.returns-clause-cause
 returns-clause-cause g c =

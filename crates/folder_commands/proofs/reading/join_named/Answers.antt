@@ -1,13 +1,13 @@
 -- What was joined is the join of what was read.
 use Rattle.std.specs.Prelude.{ℕ, List, [], Option, Some, None, filter, map, string_bytes}
 use Rattle.std.proofs.Common.{refl, sym, ap, subst, ◌∙◌, inl, inr}
-use Rattle.folder_history.specs.Call.{Call}
-use Rattle.folder_history.specs.Turn.{Gave}
+use Rattle.folder_model.specs.Call.{Call}
+use Rattle.folder_model.specs.Turn.{Gave}
 use Rattle.folder_protocol.specs.declared.taking.Untaken.{Untaken}
 use Rattle.replica_store.specs.Replica.{Replica}
 use Rattle.replica_store.proofs.Limits.{same_Ok}
-use Rattle.folder_home.specs.Parts.{PartForm}
-use Rattle.folder_home.specs.declared.fault.PartRefusal.{PartRefusal}
+use Rattle.folder_parts.specs.Parts.{PartForm}
+use Rattle.folder_parts.specs.declared.fault.PartRefusal.{PartRefusal}
 use Rattle.folder_commands.specs.Joined.{IsJoinedOf, IsStopped}
 use Rattle.folder_commands.specs.ReadParts.{AreReadSoFar, IfRefused, StopsReading}
 use Rattle.folder_commands.specs.Refusals.{IsReadRefused}

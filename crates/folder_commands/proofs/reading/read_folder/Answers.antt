@@ -1,12 +1,12 @@
 -- The names are listed, and then read.
 use Rattle.std.specs.Prelude.{map, string_bytes}
 use Rattle.std.proofs.Common.{sym, ap, subst, ◌∙◌}
-use Rattle.folder_history.specs.Turn.{Gave}
+use Rattle.folder_model.specs.Turn.{Gave}
 use Rattle.folder_protocol.proofs.Lines.{joins}
 use Rattle.folder_protocol.proofs.Linking.{plain_lock}
 use Rattle.folder_protocol.proofs.TakeLines.{untaken_later}
-use Rattle.folder_home.specs.Covers.{folder_home}
-use Rattle.folder_home.specs.declared.fault.PartRefusal.{PartRefusal}
+use Rattle.folder_parts.specs.Covers.{folder_parts}
+use Rattle.folder_parts.specs.declared.fault.PartRefusal.{PartRefusal}
 use Rattle.folder_commands.specs.ReadParts.{IfRefused}
 use Rattle.folder_commands.specs.Refusals.{IsFolderRefused, IsReadRefused}
 use Rattle.folder_commands.proofs.Commands.{were_given}
@@ -15,17 +15,17 @@ use Rattle.folder_commands.proofs.Refused.{folder_refused}
 use Rattle.folder_commands.proofs.reading.read_folder.Goals as goal
 
 pub returns-in-Ok-Some-clause-in_turn : goal.returns-in-Ok-Some-clause-in_turn
-returns-in-Ok-Some-clause-in_turn g c = joins folder_home _ _ _ (c.list_names.ensures.in_turn folder_home) c.join_named.ensures.in_turn
+returns-in-Ok-Some-clause-in_turn g c = joins folder_parts _ _ _ (c.list_names.ensures.in_turn folder_parts) c.join_named.ensures.in_turn
 
 pub returns-in-Ok-None-clause-in_turn : goal.returns-in-Ok-None-clause-in_turn
-returns-in-Ok-None-clause-in_turn g c = joins folder_home _ _ _ (c.list_names.ensures.in_turn folder_home) c.join_named.ensures.in_turn
+returns-in-Ok-None-clause-in_turn g c = joins folder_parts _ _ _ (c.list_names.ensures.in_turn folder_parts) c.join_named.ensures.in_turn
 
 pub returns-in-Err-join_named-clause-in_turn : goal.returns-in-Err-join_named-clause-in_turn
-returns-in-Err-join_named-clause-in_turn g c = joins folder_home _ _ _ (c.list_names.ensures.in_turn folder_home) c.join_named.ensures.in_turn
+returns-in-Err-join_named-clause-in_turn g c = joins folder_parts _ _ _ (c.list_names.ensures.in_turn folder_parts) c.join_named.ensures.in_turn
 
 pub returns-in-Err-join_named-clause-refused : goal.returns-in-Err-join_named-clause-refused
 returns-in-Err-join_named-clause-refused g c =
-    let lists = c.list_names.ensures.in_turn folder_home in
+    let lists = c.list_names.ensures.in_turn folder_parts in
     let joined = c.join_named.ensures.in_turn in
     let passed = map string_bytes c.args.passed.now in
     let names = map string_bytes c.as_slice.result.now in
@@ -39,7 +39,7 @@ returns-in-Err-join_named-clause-refused g c =
 
 pub returns-in-Err-join_named-clause-cause : goal.returns-in-Err-join_named-clause-cause
 returns-in-Err-join_named-clause-cause g c =
-    let lists = c.list_names.ensures.in_turn folder_home in
+    let lists = c.list_names.ensures.in_turn folder_parts in
     untaken_later c.in-Err-join_named.fault _ _ _ (lists.0, lists.1) c.in-Err-join_named.ensures.cause
 
 pub returns-in-Ok-Some-clause-unlocked : goal.returns-in-Ok-Some-clause-unlocked

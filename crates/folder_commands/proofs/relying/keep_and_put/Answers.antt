@@ -5,7 +5,7 @@ use Rattle.folder_protocol.specs.declared.putting.Outcome.TheVariants.{OnDisk}
 use Rattle.folder_protocol.proofs.Causing.{all_named_later, fails_later, looks_later}
 use Rattle.folder_protocol.proofs.Lines.{joins}
 use Rattle.folder_protocol.proofs.Linking.{plain_lock}
-use Rattle.folder_home.specs.Covers.{folder_home}
+use Rattle.folder_parts.specs.Covers.{folder_parts}
 use Rattle.folder_commands.proofs.Relied.{all_left, kept_later, on_ok}
 use Rattle.folder_commands.proofs.relying.keep_and_put.Goals as goal
 
@@ -19,21 +19,21 @@ returns-clause-kept g c = λ parts named temp.
 
 pub returns-clause-left : goal.returns-clause-left
 returns-clause-left g c = λ named temp.
-    all_left c.put.result OnDisk c.args.bytes.now (map string_bytes c.args.relied.now) _ _ (returns-clause-kept g c folder_home named temp) (c.put.ensures.stored folder_home named)
+    all_left c.put.result OnDisk c.args.bytes.now (map string_bytes c.args.relied.now) _ _ (returns-clause-kept g c folder_parts named temp) (c.put.ensures.stored folder_parts named)
 
 pub returns-clause-cause : goal.returns-clause-cause
 returns-clause-cause g c =
-    let keeps = c.keep_relied.ensures.in_turn folder_home in
+    let keeps = c.keep_relied.ensures.in_turn folder_parts in
     looks_later c.put.result c.args.name.now c.args.bytes.now _ _ _ (keeps.0, keeps.1) c.put.ensures.cause
 
 pub returns-clause-fails : goal.returns-clause-fails
 returns-clause-fails g c =
-    let keeps = c.keep_relied.ensures.in_turn folder_home in
+    let keeps = c.keep_relied.ensures.in_turn folder_parts in
     fails_later c.put.result _ _ _ (keeps.0, keeps.1) c.put.ensures.fails
 
 pub returns-clause-named : goal.returns-clause-named
 returns-clause-named g c =
-    let keeps = c.keep_relied.ensures.in_turn folder_home in
+    let keeps = c.keep_relied.ensures.in_turn folder_parts in
     all_named_later c.put.result c.args.name.now _ _ _ (keeps.0, keeps.1) c.put.ensures.named
 
 pub returns-in_err-keep_relied-clause-locks : goal.returns-in_err-keep_relied-clause-locks

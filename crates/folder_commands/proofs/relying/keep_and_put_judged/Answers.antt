@@ -1,13 +1,13 @@
 -- What it relies on is kept, and then the part is put if none is wanted.
 use Rattle.std.specs.Prelude.{◌≡◌, List, Some, None, map, string_bytes}
 use Rattle.std.proofs.Common.{◌∙◌}
-use Rattle.folder_history.specs.Call.{Call}
+use Rattle.folder_model.specs.Call.{Call}
 use Rattle.folder_protocol.specs.declared.putting.Outcome.TheVariants.{OnDisk}
 use Rattle.folder_protocol.proofs.Causing.{fails_later, follows_none, looked_later, some_named_between}
 use Rattle.folder_protocol.proofs.Lines.{joins}
 use Rattle.folder_protocol.proofs.Linking.{plain_follows, plain_lock, plain_links, links_none, links_more, all_links_between, all_was_between, some_was_between}
 use Rattle.folder_protocol.specs.Linking.{Watches, Each, One}
-use Rattle.folder_home.specs.Covers.{folder_home}
+use Rattle.folder_parts.specs.Covers.{folder_parts}
 use Rattle.folder_commands.proofs.Relied.{all_left, kept_later, on_ok}
 use Rattle.folder_commands.proofs.relying.keep_and_put_judged.Goals as goal
 
@@ -21,16 +21,16 @@ returns-clause-kept g c = λ parts named temp.
 
 pub returns-clause-left : goal.returns-clause-left
 returns-clause-left g c = λ named temp.
-    all_left c.put_judged.result (Some OnDisk) c.args.bytes.now (map string_bytes c.args.relied.now) _ _ (returns-clause-kept g c folder_home named temp) (c.put_judged.ensures.stored folder_home named temp)
+    all_left c.put_judged.result (Some OnDisk) c.args.bytes.now (map string_bytes c.args.relied.now) _ _ (returns-clause-kept g c folder_parts named temp) (c.put_judged.ensures.stored folder_parts named temp)
 
 pub returns-clause-cause : goal.returns-clause-cause
 returns-clause-cause g c =
-    let keeps = c.keep_relied.ensures.in_turn folder_home in
+    let keeps = c.keep_relied.ensures.in_turn folder_parts in
     looked_later c.put_judged.result c.args.name.now c.args.bytes.now _ _ _ (keeps.0, keeps.1) c.put_judged.ensures.cause
 
 pub returns-clause-fails : goal.returns-clause-fails
 returns-clause-fails g c =
-    let keeps = c.keep_relied.ensures.in_turn folder_home in
+    let keeps = c.keep_relied.ensures.in_turn folder_parts in
     fails_later c.put_judged.result _ _ _ (keeps.0, keeps.1) c.put_judged.ensures.fails
 
 pub returns-clause-named : goal.returns-clause-named

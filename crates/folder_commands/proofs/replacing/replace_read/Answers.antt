@@ -3,7 +3,7 @@ use Rattle.std.specs.Prelude.{ℕ, List, map, filter, string_bytes, IfSome}
 use Rattle.std.proofs.Common.{sym, ap, subst, ◌∙◌}
 use Rattle.folder_protocol.specs.Causes.{Lacks, HasCall, LookCause}
 use Rattle.folder_protocol.specs.Goes.{AreRemoved}
-use Rattle.folder_home.specs.Covers.{folder_home}
+use Rattle.folder_parts.specs.Covers.{folder_parts}
 use Rattle.folder_commands.specs.Wanted.{goes}
 use Rattle.folder_commands.proofs.Replacings.{are_joined}
 use Rattle.folder_commands.proofs.replacing.replace_read.Goals as goal
@@ -14,7 +14,7 @@ returns-in-Ok-replace-clause-in_turn g c = λ temp covered.
     let names = map string_bytes c.args.names.now in
     let named = c.as_str.ensures.value ∙ c.in-Ok.ensures.name in
     let gone = ap (λ l. map string_bytes l) c.as_slice.ensures.value ∙ c.in-Ok.ensures.gone ∙ ap (λ (n : List ℕ). filter (goes passed n) names) (sym c.as_str.ensures.value) in
-    c.replace.ensures.in_turn folder_home named temp
+    c.replace.ensures.in_turn folder_parts named temp
     (are_joined passed names c.args.bytes.now c.as_str.result.now (map string_bytes c.as_slice.result.now) (g.F.Folder.history c.args.folder.now) named gone covered)
 
 pub returns-in-Ok-replace-clause-replaces : goal.returns-in-Ok-replace-clause-replaces
@@ -23,7 +23,7 @@ returns-in-Ok-replace-clause-replaces g c = record {
   going = c.in-Ok.ensures.gone;
   removed = λ on. subst (λ (l : List (List ℕ)). AreRemoved l (g.F.Folder.history c.args.folder.now) (g.F.Folder.history c.replace.new.folder))
       (ap (λ l. map string_bytes l) c.as_slice.ensures.value) (c.in-Ok-replace.ensures.gone on);
-  stored = c.in-Ok-replace.ensures.stored folder_home (c.as_str.ensures.value ∙ c.in-Ok.ensures.name);
+  stored = c.in-Ok-replace.ensures.stored folder_parts (c.as_str.ensures.value ∙ c.in-Ok.ensures.name);
   cause = subst (λ (n : List ℕ). IfSome c.in-Ok-replace.outcome (λ how. LookCause how n c.args.bytes.now (g.F.Folder.history c.args.folder.now) (g.F.Folder.history c.replace.new.folder)))
       c.as_str.ensures.value c.in-Ok-replace.ensures.cause;
   overtaken = λ none. subst (λ (l : List (List ℕ)). HasCall (Lacks l) (g.F.Folder.history c.args.folder.now) (g.F.Folder.history c.replace.new.folder))
@@ -36,5 +36,5 @@ returns-in-Err-replace-clause-in_turn g c = λ temp covered.
     let names = map string_bytes c.args.names.now in
     let named = c.as_str.ensures.value ∙ c.in-Ok.ensures.name in
     let gone = ap (λ l. map string_bytes l) c.as_slice.ensures.value ∙ c.in-Ok.ensures.gone ∙ ap (λ (n : List ℕ). filter (goes passed n) names) (sym c.as_str.ensures.value) in
-    c.replace.ensures.in_turn folder_home named temp
+    c.replace.ensures.in_turn folder_parts named temp
     (are_joined passed names c.args.bytes.now c.as_str.result.now (map string_bytes c.as_slice.result.now) (g.F.Folder.history c.args.folder.now) named gone covered)

@@ -3,9 +3,9 @@ use Rattle.std.specs.Prelude.{Option, Ok, IfSome, filter, map, string_bytes}
 use Rattle.std.proofs.Common.{Global, String, Vec, sym, ap, subst}
 use Rattle.folder_protocol.proofs.Lines.{joins}
 use Rattle.folder_protocol.proofs.TakeLines.{untaken_later}
-use Rattle.folder_home.specs.Covers.{folder_home}
-use Rattle.folder_home.specs.declared.fault.PartRefusal.{PartRefusal}
-use Rattle.folder_home.specs.declared.skimming.SkimmedParts.{SkimmedParts}
+use Rattle.folder_parts.specs.Covers.{folder_parts}
+use Rattle.folder_parts.specs.declared.fault.PartRefusal.{PartRefusal}
+use Rattle.folder_parts.specs.declared.skimming.SkimmedParts.{SkimmedParts}
 use Rattle.folder_commands.specs.Joined.{AreUnwanted}
 use Rattle.folder_commands.specs.Relying.{AreReadRelied}
 use Rattle.folder_commands.specs.Skims.{AreSkimmed, IsSkimRefused}
@@ -18,17 +18,17 @@ use Rattle.folder_commands.proofs.Skims.{refused_later, skimmed_later}
 use Rattle.folder_commands.proofs.skimming.skim_folder.Goals as goal
 
 pub returns-in-Ok-Some-clause-in_turn : goal.returns-in-Ok-Some-clause-in_turn
-returns-in-Ok-Some-clause-in_turn g c = joins folder_home _ _ _ (c.list_names.ensures.in_turn folder_home) c.skim_named.ensures.in_turn
+returns-in-Ok-Some-clause-in_turn g c = joins folder_parts _ _ _ (c.list_names.ensures.in_turn folder_parts) c.skim_named.ensures.in_turn
 
 pub returns-in-Ok-Some-clause-listed : goal.returns-in-Ok-Some-clause-listed
 returns-in-Ok-Some-clause-listed g c =
-    let lists = c.list_names.ensures.in_turn folder_home in
+    let lists = c.list_names.ensures.in_turn folder_parts in
     let skims = c.skim_named.ensures.in_turn in
     were_given (map string_bytes c.in-Ok.listed.items) (g.F.Folder.history c.args.folder.now) (g.F.Folder.history c.list_names.new.folder) (g.F.Folder.history c.skim_named.new.folder) (lists.0, lists.1) (skims.0, skims.1) c.in-Ok.ensures.listed
 
 pub returns-in-Ok-Some-clause-answers : goal.returns-in-Ok-Some-clause-answers
 returns-in-Ok-Some-clause-answers g c =
-    let lists = c.list_names.ensures.in_turn folder_home in
+    let lists = c.list_names.ensures.in_turn folder_parts in
     let passed = map string_bytes c.args.passed.now in
     let first = c.args.names.first in
     let count = c.args.names.count in
@@ -42,7 +42,7 @@ returns-in-Ok-Some-clause-answers g c =
 
 pub returns-in-Ok-Some-clause-relied : goal.returns-in-Ok-Some-clause-relied
 returns-in-Ok-Some-clause-relied g c =
-    let lists = c.list_names.ensures.in_turn folder_home in
+    let lists = c.list_names.ensures.in_turn folder_parts in
     let wanted = is_wanted (map string_bytes c.args.passed.now) in
     let load = Load c.args.names in
     let before = g.F.Folder.history c.args.folder.now in
@@ -54,11 +54,11 @@ returns-in-Ok-Some-clause-relied g c =
     (subst (λ l. AreReadRelied load (map string_bytes c.in-Ok-Some.relied.items) (filter wanted (map string_bytes l)) mid after) c.as_slice.ensures.value there)
 
 pub returns-in-Ok-None-clause-in_turn : goal.returns-in-Ok-None-clause-in_turn
-returns-in-Ok-None-clause-in_turn g c = joins folder_home _ _ _ (c.list_names.ensures.in_turn folder_home) c.skim_named.ensures.in_turn
+returns-in-Ok-None-clause-in_turn g c = joins folder_parts _ _ _ (c.list_names.ensures.in_turn folder_parts) c.skim_named.ensures.in_turn
 
 pub returns-in-Ok-None-clause-none : goal.returns-in-Ok-None-clause-none
 returns-in-Ok-None-clause-none g c = λ none.
-    let lists = c.list_names.ensures.in_turn folder_home in
+    let lists = c.list_names.ensures.in_turn folder_parts in
     let skims = c.skim_named.ensures.in_turn in
     let names = map string_bytes c.in-Ok.listed.items in (
       names,
@@ -67,11 +67,11 @@ returns-in-Ok-None-clause-none g c = λ none.
     )
 
 pub returns-in-Err-skim_named-clause-in_turn : goal.returns-in-Err-skim_named-clause-in_turn
-returns-in-Err-skim_named-clause-in_turn g c = joins folder_home _ _ _ (c.list_names.ensures.in_turn folder_home) c.skim_named.ensures.in_turn
+returns-in-Err-skim_named-clause-in_turn g c = joins folder_parts _ _ _ (c.list_names.ensures.in_turn folder_parts) c.skim_named.ensures.in_turn
 
 pub returns-in-Err-skim_named-clause-refused : goal.returns-in-Err-skim_named-clause-refused
 returns-in-Err-skim_named-clause-refused g c =
-    let lists = c.list_names.ensures.in_turn folder_home in
+    let lists = c.list_names.ensures.in_turn folder_parts in
     let passed = map string_bytes c.args.passed.now in
     let first = c.args.names.first in
     let count = c.args.names.count in
@@ -84,5 +84,5 @@ returns-in-Err-skim_named-clause-refused g c =
 
 pub returns-in-Err-skim_named-clause-cause : goal.returns-in-Err-skim_named-clause-cause
 returns-in-Err-skim_named-clause-cause g c =
-    let lists = c.list_names.ensures.in_turn folder_home in
+    let lists = c.list_names.ensures.in_turn folder_parts in
     untaken_later c.in-Err-skim_named.fault _ _ _ (lists.0, lists.1) c.in-Err-skim_named.ensures.cause

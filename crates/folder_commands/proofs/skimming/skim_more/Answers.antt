@@ -1,5 +1,5 @@
 -- What is enough of the parts before is so with one more.
-use Rattle.folder_home.specs.Parts.{PartForm}
+use Rattle.folder_parts.specs.Parts.{PartForm}
 use Rattle.folder_commands.proofs.Skims.{first_more, more_made, more_stopped, next_more}
 use Rattle.folder_commands.proofs.skimming.skim_more.Goals as goal
 

@@ -2,15 +2,15 @@
 use Rattle.std.specs.Prelude.{ℕ, List, Option, Some, Ok, Err, filter, map, string_bytes}
 use Rattle.std.proofs.Common.{refl, sym, ap, subst, ◌∙◌}
 use Rattle.table_model.specs.declared.refusal.Refusal.{Refusal}
-use Rattle.folder_history.specs.Turn.{Gave}
+use Rattle.folder_model.specs.Turn.{Gave}
 use Rattle.folder_protocol.specs.declared.taking.Untaken.{Untaken}
 use Rattle.folder_protocol.proofs.Causing.{follows_none}
 use Rattle.replica_store.specs.Replica.{Replica}
-use Rattle.folder_home.specs.PartReads.{IsListed, is_refusal_of_part}
-use Rattle.folder_home.specs.Parts.{PartForm}
-use Rattle.folder_home.specs.declared.fault.PartFault.TheVariants.{Refused}
-use Rattle.folder_home.specs.declared.fault.PartRefusal.{PartRefusal}
-use Rattle.folder_home.specs.declared.skimming.SkimmedParts.{SkimmedParts}
+use Rattle.folder_parts.specs.PartReads.{IsListed, is_refusal_of_part}
+use Rattle.folder_parts.specs.Parts.{PartForm}
+use Rattle.folder_parts.specs.declared.fault.PartFault.TheVariants.{Refused}
+use Rattle.folder_parts.specs.declared.fault.PartRefusal.{PartRefusal}
+use Rattle.folder_parts.specs.declared.skimming.SkimmedParts.{SkimmedParts}
 use Rattle.folder_commands.specs.ReadParts.{AreReadSoFar, IfRefused, StopsReading}
 use Rattle.folder_commands.specs.Relying.{AreRelied}
 use Rattle.folder_commands.specs.Skims.{IsSkimOf, IsSkimRefused, SkimsRead}

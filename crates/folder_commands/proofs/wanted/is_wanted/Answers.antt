@@ -2,7 +2,7 @@
 use Rattle.std.proofs.Common.{◌≡◌, ◌∙◌, sym, true, not, ◌&&◌, List, ℕ, string_bytes}
 use Rattle.table_model.specs.Identifier.{same_text}
 use Rattle.table_model.proofs.Texts.{list_any-map}
-use Rattle.folder_home.specs.PartName.{is_part_name}
+use Rattle.folder_parts.specs.PartName.{is_part_name}
 use Rattle.folder_commands.specs.Wanted.{is_wanted}
 use Rattle.folder_commands.proofs.wanted.is_wanted.Goals as goal
 

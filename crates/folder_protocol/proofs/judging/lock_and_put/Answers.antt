@@ -1,5 +1,5 @@
 use Rattle.std.proofs.Common.{inl, refl, ap, ◌≡◌, List, None}
-use Rattle.folder_history.specs.Call.{Call, lock_of}
+use Rattle.folder_model.specs.Call.{Call, lock_of}
 use Rattle.folder_protocol.specs.Causes.{Fails}
 use Rattle.folder_protocol.proofs.Causing.{follows_none, follows_on, has_now, has_before, looked_later, looked_before, some_named_between, fails_later, fails_before}
 use Rattle.folder_protocol.proofs.Lines.{starts, goes_on, joins, ready_locked}

@@ -2,7 +2,7 @@ use Rattle.std.proofs.Common.{rules, inl, ◌∙◌, List}
 use Rattle.folder_protocol.specs.Causes.{Fails}
 use Rattle.folder_protocol.proofs.Causing.{follows_none, follows_on, has_later, has_before, look_later, named_later}
 use Rattle.folder_protocol.proofs.Lines.{goes_on, joins}
-use Rattle.folder_history.specs.Call.{Call}
+use Rattle.folder_model.specs.Call.{Call}
 use Rattle.folder_protocol.specs.Linking.{Watches, Each, One}
 use Rattle.folder_protocol.proofs.Linking.{links_on, links_never, links_at, was_now, was_between}
 use Rattle.folder_protocol.proofs.judging.look_and_put.Goals as goal

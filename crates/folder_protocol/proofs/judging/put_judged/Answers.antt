@@ -2,7 +2,7 @@ use Rattle.std.proofs.Common.{inl, ap, ◌∙◌, ◌≡◌, List, None}
 use Rattle.folder_protocol.specs.Causes.{Fails}
 use Rattle.folder_protocol.proofs.Causing.{follows_none, follows_on, has_before, looked_later, some_named_between, fails_later, parts_without, no_part_of}
 use Rattle.folder_protocol.proofs.Lines.{goes_on, joins}
-use Rattle.folder_history.specs.Call.{Call, lock_of}
+use Rattle.folder_model.specs.Call.{Call, lock_of}
 use Rattle.folder_protocol.specs.Linking.{Watches, Each, One}
 use Rattle.folder_protocol.proofs.Linking.{plain_follows, plain_lock, plain_links, links_none, links_on, links_more, all_links_between, all_was_between, some_was_between}
 use Rattle.folder_protocol.proofs.judging.put_judged.Goals as goal

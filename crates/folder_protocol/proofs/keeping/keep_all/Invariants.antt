@@ -1,8 +1,8 @@
 -- Each part before this one was read and synced, or is gone.
 use Rattle.std.proofs.Common.{length, ◌-◌, ◌≤◌, ℕ, List, map, take}
 use Rattle.std.specs.String.{string_bytes}
-use Rattle.folder_history.specs.Disk.{Among}
-use Rattle.folder_history.specs.Parts.{Parts}
+use Rattle.folder_model.specs.Disk.{Among}
+use Rattle.folder_model.specs.Parts.{Parts}
 use Rattle.folder_protocol.specs.Goes.{GoesInTurn}
 use Rattle.folder_protocol.specs.Keeping.{IsSyncedOrGone, IsSyncedOrMissed}
 use Rattle.folder_protocol.specs.Linking.{GoesPlainly}

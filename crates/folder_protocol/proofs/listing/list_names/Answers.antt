@@ -4,7 +4,7 @@ use Rattle.folder_protocol.specs.Causes.{Fails}
 use Rattle.folder_protocol.proofs.Causing.{follows_none, follows_on, has_now, on_err}
 use Rattle.folder_protocol.proofs.Lines.{starts, goes_on}
 use Rattle.folder_protocol.proofs.ReadLines.{lists_either, fails_to_list}
-use Rattle.folder_history.specs.Call.{Call, lock_of}
+use Rattle.folder_model.specs.Call.{Call, lock_of}
 use Rattle.folder_protocol.proofs.Linking.{links_none, links_on, links_more, lists_links_either}
 use Rattle.folder_protocol.proofs.Removals.{removes_none, removes_on, removes_more, lists_remove_either}
 use Rattle.folder_protocol.proofs.listing.list_names.Goals as goal

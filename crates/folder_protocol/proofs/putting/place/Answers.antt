@@ -1,5 +1,5 @@
 use Rattle.std.proofs.Common.{rules, inl, refl, ap, ◌∙◌, List, ◌≡◌, Bool, true, false, if◌then◌else◌}
-use Rattle.folder_history.specs.Call.{Call, Done, Taken, lock_of}
+use Rattle.folder_model.specs.Call.{Call, Done, Taken, lock_of}
 use Rattle.folder_protocol.specs.Causes.{Fails, FailsToSync, AnswersLink}
 use Rattle.folder_protocol.proofs.Causing.{follows_none, follows_on, has_now, has_later, has_before, looks_later, fails_later, all_named, parts_without}
 use Rattle.folder_protocol.proofs.Lines.{starts, goes_on, joins, settles_on}

@@ -2,7 +2,7 @@ use Rattle.std.proofs.Common.{inl, ap, ◌∙◌}
 use Rattle.folder_protocol.specs.Causes.{Fails}
 use Rattle.folder_protocol.proofs.Causing.{follows_none, follows_on, has_before, looks_later, fails_later, all_named_later, parts_without, no_part_of}
 use Rattle.folder_protocol.proofs.Lines.{goes_on, joins}
-use Rattle.folder_history.specs.Call.{lock_of}
+use Rattle.folder_model.specs.Call.{lock_of}
 use Rattle.folder_protocol.proofs.Linking.{plain_lock}
 use Rattle.folder_protocol.proofs.putting.put.Goals as goal
 

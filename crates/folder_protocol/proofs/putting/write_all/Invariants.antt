@@ -1,6 +1,6 @@
 use Rattle.std.proofs.Common.{length, ◌-◌, ◌≤◌, ◌≡◌, take, [], ℕ, List}
-use Rattle.folder_history.specs.Parts.{Parts}
-use Rattle.folder_history.specs.Turn.{Filled, stage_of}
+use Rattle.folder_model.specs.Parts.{Parts}
+use Rattle.folder_model.specs.Turn.{Filled, stage_of}
 use Rattle.folder_protocol.specs.Goes.{GoesInTurn}
 use Rattle.folder_protocol.specs.Linking.{GoesPlainly}
 use Rattle.folder_protocol.proofs.Causing.{Follows}

@@ -1,11 +1,11 @@
 use Rattle.folder_protocol.specs.Causes.{Fails}
 use Rattle.folder_protocol.proofs.Causing.{has_now, has_later, on_err}
 use Rattle.folder_protocol.proofs.Lines.{joins, all_joined_later, removed_between, settles_on}
-use Rattle.folder_history.specs.Parts.{Parts}
-use Rattle.folder_history.specs.Call.{Call, Settled, lock_of}
+use Rattle.folder_model.specs.Parts.{Parts}
+use Rattle.folder_model.specs.Call.{Call, Settled, lock_of}
 use Rattle.std.proofs.Common.{refl, ap, ◌∙◌, List, [], ◌∷◌, true, map}
 use Rattle.std.specs.String.{string_bytes}
-use Rattle.folder_history.specs.Turn.{stage_of}
+use Rattle.folder_model.specs.Turn.{stage_of}
 use Rattle.folder_protocol.proofs.Linking.{plain_on, plain_more, settled_guarded}
 use Rattle.folder_protocol.proofs.removing.look_and_remove.Goals as goal
 

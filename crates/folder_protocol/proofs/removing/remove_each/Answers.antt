@@ -1,12 +1,12 @@
 use Rattle.std.proofs.Common.{refl, ap, ℕ, List, map, sym, subst, ⊎_elim, inl, inr, ◌∙◌}
-use Rattle.folder_history.specs.Disk.{Among}
+use Rattle.folder_model.specs.Disk.{Among}
 use Rattle.std.specs.String.{string_bytes}
 use Rattle.folder_protocol.specs.Causes.{Fails}
 use Rattle.folder_protocol.proofs.Causing.{follows_on, has_now, has_later, on_err}
 use Rattle.folder_protocol.proofs.Lines.{removes_on, among_map, one_removed}
 use Rattle.folder_protocol.proofs.ReadLines.{among_more, among_all}
-use Rattle.folder_history.specs.Call.{Call}
-use Rattle.folder_history.specs.Turn.{stage_of}
+use Rattle.folder_model.specs.Call.{Call}
+use Rattle.folder_model.specs.Turn.{stage_of}
 use Rattle.folder_protocol.proofs.Linking.{plain_on}
 use Rattle.folder_protocol.proofs.removing.remove_each.Goals as goal
 

@@ -1,7 +1,7 @@
 use Rattle.std.proofs.Common.{length, ◌-◌, ◌≡◌, ℕ, List, map, take}
 use Rattle.std.specs.String.{string_bytes}
-use Rattle.folder_history.specs.Parts.{Parts}
-use Rattle.folder_history.specs.Turn.{Guarded, stage_of}
+use Rattle.folder_model.specs.Parts.{Parts}
+use Rattle.folder_model.specs.Turn.{Guarded, stage_of}
 use Rattle.folder_protocol.specs.Goes.{GoesInTurn, AreJoined, AreRemoved}
 use Rattle.folder_protocol.specs.Linking.{GoesPlainly}
 use Rattle.folder_protocol.proofs.Causing.{Follows}

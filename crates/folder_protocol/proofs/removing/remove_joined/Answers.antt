@@ -1,6 +1,6 @@
 use Rattle.std.proofs.Common.{refl, ap, List, [], ◌∷◌, true, map}
 use Rattle.std.specs.String.{string_bytes}
-use Rattle.folder_history.specs.Call.{Call, lock_of, Locked, Unlocked, Exclusive}
+use Rattle.folder_model.specs.Call.{Call, lock_of, Locked, Unlocked, Exclusive}
 use Rattle.folder_protocol.specs.Causes.{Fails}
 use Rattle.folder_protocol.proofs.Causing.{follows_none, follows_on, has_now, on_err, looks_later, looks_before, fails_later, fails_before}
 use Rattle.folder_protocol.proofs.Lines.{starts, goes_on, joins, all_joined_later, answer_between}

@@ -1,7 +1,7 @@
 use Rattle.std.proofs.Common.{refl, subst, map, List, Some, None}
 use Rattle.std.specs.String.{string_bytes}
-use Rattle.folder_history.specs.Call.{Call, Exclusive, Began}
-use Rattle.folder_history.specs.Disk.{Among}
+use Rattle.folder_model.specs.Call.{Call, Exclusive, Began}
+use Rattle.folder_model.specs.Disk.{Among}
 use Rattle.folder_protocol.specs.Causes.{Fails, Lacks}
 use Rattle.folder_protocol.proofs.Causing.{follows_none, follows_on, has_now, has_later, on_err}
 use Rattle.folder_protocol.proofs.Lines.{starts, goes_on}

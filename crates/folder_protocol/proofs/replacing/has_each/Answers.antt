@@ -1,6 +1,6 @@
 use Rattle.std.proofs.Common.{List, ℕ, map, sym, ◌∙◌, subst, ⊎_elim, arith}
 use Rattle.std.specs.String.{string_bytes}
-use Rattle.folder_history.specs.Disk.{Among}
+use Rattle.folder_model.specs.Disk.{Among}
 use Rattle.folder_protocol.proofs.Lines.{among_map}
 use Rattle.folder_protocol.proofs.ReadLines.{among_more, among_all}
 use Rattle.folder_protocol.proofs.replacing.has_each.Goals as goal

@@ -1,6 +1,6 @@
 use Rattle.std.proofs.Common.{length, ◌-◌, ◌≤◌, ℕ, List, map, take}
 use Rattle.std.specs.String.{string_bytes}
-use Rattle.folder_history.specs.Disk.{Among}
+use Rattle.folder_model.specs.Disk.{Among}
 use Rattle.folder_protocol.proofs.replacing.has_each.Given as goal
 
 -- how far it is

@@ -1,6 +1,6 @@
 use Rattle.std.proofs.Common.{◌≡◌, Some, None, List, [], ◌∷◌, inl, true, refl, ap, map}
 use Rattle.std.specs.String.{string_bytes}
-use Rattle.folder_history.specs.Call.{Call, Locked, Unlocked, Exclusive, lock_of}
+use Rattle.folder_model.specs.Call.{Call, Locked, Unlocked, Exclusive, lock_of}
 use Rattle.folder_protocol.specs.Causes.{Fails, Lacks}
 use Rattle.folder_protocol.specs.declared.putting.Outcome.TheVariants.{OnDisk}
 use Rattle.folder_protocol.proofs.Causing.{follows_none, follows_on, has_now, has_before, looked_later, looked_before, fails_later, fails_before, cause_between}

@@ -4,7 +4,7 @@ use Rattle.folder_protocol.specs.Causes.{Fails, Lacks}
 use Rattle.folder_protocol.specs.declared.putting.Outcome.TheVariants.{OnDisk}
 use Rattle.folder_protocol.proofs.Causing.{follows_none, follows_on, has_before, looked_later, fails_later}
 use Rattle.folder_protocol.proofs.Lines.{goes_on, joins, all_joined_later, answer_between}
-use Rattle.folder_history.specs.Call.{Call}
+use Rattle.folder_model.specs.Call.{Call}
 use Rattle.folder_protocol.specs.Linking.{Watches, HasEach, LacksOne}
 use Rattle.folder_protocol.proofs.Linking.{links_on, links_never, links_at, was_now, was_between, never_none}
 use Rattle.folder_protocol.proofs.replacing.look_and_replace.Goals as goal

@@ -1,6 +1,6 @@
 use Rattle.std.proofs.Common.{◌≡◌, List, [], inl, inr, refl, ap, ◌∙◌, map}
 use Rattle.std.specs.String.{string_bytes}
-use Rattle.folder_history.specs.Call.{Call, lock_of}
+use Rattle.folder_model.specs.Call.{Call, lock_of}
 use Rattle.folder_protocol.specs.Causes.{Fails}
 use Rattle.folder_protocol.proofs.Causing.{follows_none, follows_on, has_now, has_later, has_before, look_later}
 use Rattle.folder_protocol.proofs.Lines.{starts, goes_on, joins, all_joined_later, removed_between, some_is}

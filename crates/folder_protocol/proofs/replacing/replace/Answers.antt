@@ -4,7 +4,7 @@ use Rattle.folder_protocol.specs.Causes.{Fails, Lacks}
 use Rattle.folder_protocol.specs.declared.putting.Outcome.TheVariants.{OnDisk}
 use Rattle.folder_protocol.proofs.Causing.{follows_none, follows_on, has_before, looked_later, fails_later, cause_between, parts_without, no_part_of}
 use Rattle.folder_protocol.proofs.Lines.{goes_on, joins, all_joined_later, answer_between}
-use Rattle.folder_history.specs.Call.{Call, lock_of}
+use Rattle.folder_model.specs.Call.{Call, lock_of}
 use Rattle.folder_protocol.specs.Linking.{Watches, HasEach, LacksOne}
 use Rattle.folder_protocol.proofs.Linking.{plain_follows, plain_lock, plain_links, links_none, links_on, links_more, all_links_between, all_was_between}
 use Rattle.folder_protocol.proofs.replacing.replace.Goals as goal

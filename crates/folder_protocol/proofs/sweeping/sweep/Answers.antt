@@ -1,6 +1,6 @@
 use Rattle.std.proofs.Common.{◌≡◌, true, ℕ, List, map, sym, ap, ◌∙◌}
 use Rattle.std.specs.String.{string_bytes}
-use Rattle.folder_history.specs.Turn.{Gave}
+use Rattle.folder_model.specs.Turn.{Gave}
 use Rattle.folder_protocol.specs.Sweeping.{Tries}
 use Rattle.folder_protocol.proofs.Causing.{has_later}
 use Rattle.folder_protocol.proofs.Kept.{any_parts}

@@ -1,9 +1,9 @@
 -- Each temporary before this name was to be removed.
 use Rattle.std.proofs.Common.{length, ◌-◌, ◌≡◌, true, ℕ, List, map, take}
 use Rattle.std.specs.String.{string_bytes}
-use Rattle.folder_history.specs.Disk.{Among}
-use Rattle.folder_history.specs.Parts.{Parts, IsNoPart}
-use Rattle.folder_history.specs.Turn.{Gave, listing_of}
+use Rattle.folder_model.specs.Disk.{Among}
+use Rattle.folder_model.specs.Parts.{Parts, IsNoPart}
+use Rattle.folder_model.specs.Turn.{Gave, listing_of}
 use Rattle.folder_protocol.specs.Causes.{HasCall}
 use Rattle.folder_protocol.specs.Goes.{GoesInTurn}
 use Rattle.folder_protocol.specs.Linking.{GoesPlainly}

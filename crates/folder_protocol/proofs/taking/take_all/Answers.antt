@@ -1,6 +1,6 @@
 use Rattle.std.proofs.Common.{map, ap, sym, ◌∙◌}
 use Rattle.std.specs.String.{string_bytes}
-use Rattle.folder_history.specs.Turn.{Gave}
+use Rattle.folder_model.specs.Turn.{Gave}
 use Rattle.folder_protocol.proofs.Lines.{joins}
 use Rattle.folder_protocol.proofs.TakeLines.{some_parts, found_taken, untaken_later}
 use Rattle.folder_protocol.proofs.Linking.{plain_lock}

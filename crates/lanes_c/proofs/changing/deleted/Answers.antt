@@ -2,8 +2,8 @@
 use Rattle.std.specs.Prelude.{ℕ, List, ◌==◌, not}
 use Rattle.std.specs.Global.{Vec}
 use Rattle.std.proofs.Common.{ap, refl, ◌∙◌, Bor}
-use Rattle.replica_commands.specs.Commands.{deleting}
-use Rattle.replica_commands.specs.declared.deleting.Deleted.{Deleted}
+use Rattle.replica_changes.specs.Commands.{deleting}
+use Rattle.replica_changes.specs.declared.deleting.Deleted.{Deleted}
 use Rattle.lanes_c.specs.Rooms.{given_by}
 use Rattle.std.proofs.lemmas.Result.{err_from_is_err_and}
 use Rattle.lanes_c.specs.Faults.{told}

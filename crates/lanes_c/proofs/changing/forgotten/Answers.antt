@@ -2,7 +2,7 @@
 use Rattle.std.specs.Prelude.{ℕ, List, ◌==◌, not}
 use Rattle.std.specs.Global.{Vec}
 use Rattle.std.proofs.Common.{ap, refl, ◌∙◌, Bor}
-use Rattle.replica_commands.specs.Forgetting.{forgetting}
+use Rattle.replica_changes.specs.Forgetting.{forgetting}
 use Rattle.replica_store.specs.declared.forgotten.Forgotten.{Forgotten}
 use Rattle.lanes_c.specs.Rooms.{given_by}
 use Rattle.std.proofs.lemmas.Result.{err_from_is_err_and}

@@ -2,8 +2,8 @@
 use Rattle.std.specs.Prelude.{ℕ, List, ◌==◌, not}
 use Rattle.std.specs.Global.{Vec}
 use Rattle.std.proofs.Common.{ap, refl, ◌∙◌, Bor}
-use Rattle.replica_commands.specs.Loads.{importing}
-use Rattle.replica_commands.specs.declared.importing.Imported.{Imported}
+use Rattle.replica_changes.specs.Loads.{importing}
+use Rattle.replica_changes.specs.declared.importing.Imported.{Imported}
 use Rattle.lanes_c.specs.Rooms.{given_by}
 use Rattle.std.proofs.lemmas.Result.{err_from_is_err_and}
 use Rattle.lanes_c.specs.Faults.{told}

@@ -2,8 +2,8 @@
 use Rattle.std.specs.Prelude.{ℕ, List, [], ◌∷◌}
 use Rattle.std.specs.Global.{Vec}
 use Rattle.std.proofs.Common.{ap, refl, ◌∙◌, Bor, Err}
-use Rattle.replica_commands.specs.Commands.{applying}
-use Rattle.replica_commands.specs.declared.applying.Applied.{Applied}
+use Rattle.replica_changes.specs.Commands.{applying}
+use Rattle.replica_changes.specs.declared.applying.Applied.{Applied}
 use Rattle.lanes_c.specs.Rooms.{given_by}
 use Rattle.std.proofs.lemmas.Result.{err_from_is_err_and}
 use Rattle.lanes_c.specs.Faults.{told}

@@ -2,7 +2,7 @@
 use Rattle.std.specs.Prelude.{ℕ}
 use Rattle.std.specs.Global.{Vec}
 use Rattle.std.proofs.Common.{ap, ◌∙◌}
-use Rattle.replica_reading.specs.Held.{summarizing}
+use Rattle.replica_reports.specs.Held.{summarizing}
 use Rattle.lanes_c.specs.Rooms.{given_by}
 use Rattle.lanes_c.proofs.Givings.{text_given}
 use Rattle.lanes_c.proofs.messages.message_of.Goals as goal

@@ -1,6 +1,6 @@
 -- A forget that drops nothing begins no turn, and another one the turn of its order.
 use Rattle.std.specs.Prelude.{string_bytes}
-use Rattle.folder_replay.specs.Turns.{state_of}
+use Rattle.folder_turns.specs.Turns.{state_of}
 use Rattle.lanes_c.specs.PartsHandles.{Read}
 use Rattle.lanes_c.specs.PartsRead.{Forgets, turn_of}
 use Rattle.std.proofs.Common.{refl, ap, ◌∙◌, subst, None, Some, Ok}

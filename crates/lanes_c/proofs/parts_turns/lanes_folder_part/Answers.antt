@@ -1,8 +1,8 @@
 -- The bytes of the turn's part are handed over.
 use Rattle.std.specs.Prelude.{ℕ, List, Option}
 use Rattle.std.proofs.Common.{◌≡◌, refl, ap, sym, subst, ◌∙◌, None, Some, Ok, Err}
-use Rattle.folder_replay.specs.Turns.{State, state_of}
-use Rattle.folder_replay.specs.declared.turn.Turn.{Turn}
+use Rattle.folder_turns.specs.Turns.{State, state_of}
+use Rattle.folder_turns.specs.declared.turn.Turn.{Turn}
 use Rattle.lanes_c.specs.PartsRead.{GivesPart}
 use Rattle.lanes_c.specs.Rooms.{Given}
 use Rattle.lanes_c.specs.declared.fault.Fault.TheVariants.{NotOpen}

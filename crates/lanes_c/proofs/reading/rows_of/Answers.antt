@@ -2,7 +2,7 @@
 use Rattle.std.specs.Prelude.{ℕ}
 use Rattle.std.specs.Global.{Vec}
 use Rattle.std.proofs.Common.{ap, ◌∙◌}
-use Rattle.replica_reading.specs.Dumps.{dumping}
+use Rattle.replica_reports.specs.Dumps.{dumping}
 use Rattle.lanes_c.specs.Rooms.{given_by}
 use Rattle.lanes_c.proofs.Givings.{lines_given}
 use Rattle.lanes_c.proofs.reading.rows_of.Goals as goal

@@ -1,6 +1,6 @@
 -- The load is imported into a copy.
 use Rattle.std.proofs.lemmas.Result.{err_from_is_err_and}
-use Rattle.replica_commands.specs.Loads.{importing}
+use Rattle.replica_changes.specs.Loads.{importing}
 use Rattle.lanes_c.proofs.TableChanging.{copy_is, copy_lacks, made_of_copy, refused_of_copy}
 use Rattle.lanes_c.proofs.table_changes.with_load.Goals as goal
 

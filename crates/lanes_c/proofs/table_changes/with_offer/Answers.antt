@@ -2,7 +2,7 @@
 use Rattle.std.specs.Prelude.{ℕ, List}
 use Rattle.std.proofs.Common.{ap, Bor, Err, Ok}
 use Rattle.std.proofs.lemmas.Result.{err_from_is_err_and}
-use Rattle.replica_commands.specs.Commands.{applying}
+use Rattle.replica_changes.specs.Commands.{applying}
 use Rattle.lanes_c.specs.Faults.{told}
 use Rattle.lanes_c.proofs.TableChanging.{copy_is, copy_lacks, made_of_copy, offer_refused, offer_there, refused_of_copy}
 use Rattle.lanes_c.proofs.table_changes.with_offer.Goals as goal

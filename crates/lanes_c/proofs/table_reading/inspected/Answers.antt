@@ -1,7 +1,7 @@
 -- The file of the store is opened, and that is reported.
 use Rattle.std.proofs.Common.{ap, sym, ◌∙◌}
 use Rattle.std.proofs.lemmas.Result.{err_from_is_err_and}
-use Rattle.replica_reading.specs.Held.{held_in}
+use Rattle.replica_reports.specs.Held.{held_in}
 use Rattle.lanes_c.specs.Rooms.{given_by}
 use Rattle.lanes_c.proofs.TableReadings.{inspected_given, file_lacks, file_unread}
 use Rattle.lanes_c.proofs.table_reading.inspected.Goals as goal

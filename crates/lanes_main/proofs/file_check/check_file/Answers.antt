@@ -2,8 +2,8 @@
 use Rattle.std.proofs.lemmas.Result.{err_from_is_err_and}
 use Rattle.replica_store.specs.Replica.{Replica}
 use Rattle.replica_store.specs.Segments.{StoreForm}
-use Rattle.replica_reading.specs.Asking.{checked_text, counts_of}
-use Rattle.replica_reading.specs.Held.{held_in}
+use Rattle.replica_reports.specs.Asking.{checked_text, counts_of}
+use Rattle.replica_reports.specs.Held.{held_in}
 use Rattle.lanes_main.specs.FileReport.{check_report, is_refusal_of_checking}
 use Rattle.lanes_main.proofs.FileReports.{reading_refused, reading_checks, reading_ends, unchecked, check_told, text_ends}
 use Rattle.lanes_main.proofs.file_check.check_file.Goals as goal

@@ -1,7 +1,7 @@
 -- What is told is written whole, or a front of it.
 use Rattle.std.proofs.Common.{◌≡◌, ◌∙◌, ℕ, List, Ok, Result, ap, sym}
 use Rattle.table_model.specs.declared.refusal.Refusal.{Refusal}
-use Rattle.replica_reading.proofs.AskedTexts.{text_written}
+use Rattle.replica_reports.proofs.AskedTexts.{text_written}
 use Rattle.partial_commands.specs.Coverage.{summary_coverage}
 use Rattle.partial_commands.proofs.coverage.inspect_summary.Goals as goal
 

@@ -1,7 +1,7 @@
 -- The pieces of an object are put one behind another.
 use Rattle.std.proofs.Common.{◌≡◌, ◌∙◌, ◌++◌, ℕ, List, ap, codes, sym}
 use Rattle.answer_formats.specs.declared.format.ReportForm.{ReportForm}
-use Rattle.replica_reading.proofs.ReportTexts.{on_ok}
+use Rattle.replica_reports.proofs.ReportTexts.{on_ok}
 use Rattle.partial_commands.specs.Coverage.{json_text, table_and_query}
 use Rattle.partial_commands.proofs.CoverageTexts.{four_pieces}
 use Rattle.partial_commands.proofs.coverage.push_table_and_query.Goals as goal

@@ -2,7 +2,7 @@
 use Rattle.std.proofs.lemmas.Result.{err_from_is_err_and}
 use Rattle.partial_file.specs.PartialAnswerBytes.{partial_answer_bytes}
 use Rattle.partial_commands.specs.StorePartialAnswer.{query_partial_answer}
-use Rattle.replica_commands.proofs.CommandSteps.{export_counts}
+use Rattle.replica_changes.proofs.CommandSteps.{export_counts}
 use Rattle.partial_commands.proofs.WritingSteps.{query_refused, partial_answer_written, writing_listed, writing_kept, query_answers, query_counts}
 use Rattle.partial_commands.proofs.partial_answer_writing.write_partial_answer_of_store.Goals as goal
 

@@ -1,9 +1,9 @@
 -- What is left of the store is left of what parts hold together.
 use Rattle.std.specs.Prelude.{◌≡◌, ◌==◌, not, true, Ok, IfOk}
 use Rattle.replica_store.specs.Replica.{Replica}
-use Rattle.replica_reading.specs.Held.{held_in}
-use Rattle.replica_commands.specs.Commands.{as_held, file_of}
-use Rattle.replica_commands.specs.Forgetting.{forgetting}
+use Rattle.replica_reports.specs.Held.{held_in}
+use Rattle.replica_changes.specs.Commands.{as_held, file_of}
+use Rattle.replica_changes.specs.Forgetting.{forgetting}
 use Rattle.read_parts.proofs.Following.{of_join}
 use Rattle.read_parts.proofs.parts.left.Goals as goal
 

@@ -3,8 +3,8 @@ use Rattle.std.specs.Prelude.{List, [], ◌∷◌, ◌++◌}
 use Rattle.std.proofs.Common.{sym, subst}
 use Rattle.std.proofs.lemmas.Result.{err_from_is_err_and}
 use Rattle.table_model.specs.declared.refusal.Refusal.{Refusal}
-use Rattle.folder_home.specs.declared.fault.PartFault.TheVariants.{Refused}
-use Rattle.folder_home.specs.Parts.{PartForm}
+use Rattle.folder_parts.specs.declared.fault.PartFault.TheVariants.{Refused}
+use Rattle.folder_parts.specs.Parts.{PartForm}
 use Rattle.folder_commands.specs.Joined.{IsStopped}
 use Rattle.folder_commands.proofs.Joins.{lacks_beside}
 use Rattle.folder_commands.proofs.joining.JoiningGathers.with.Goals as goal

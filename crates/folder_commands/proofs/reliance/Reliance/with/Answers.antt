@@ -1,7 +1,7 @@
 -- The name is added, if the command relies on the part.
 use Rattle.std.specs.Prelude.{map, string_bytes}
 use Rattle.std.proofs.Common.{subst}
-use Rattle.folder_history.specs.Disk.{Among}
+use Rattle.folder_model.specs.Disk.{Among}
 use Rattle.folder_protocol.proofs.ReadLines.{among_new, among_pushed}
 use Rattle.folder_commands.proofs.Relied.{relied_more, relied_same}
 use Rattle.folder_commands.proofs.reliance.Reliance.with.Goals as goal

@@ -3,9 +3,9 @@ use Rattle.std.specs.Prelude.{List, [], ◌∷◌, ◌++◌, Err}
 use Rattle.std.proofs.Common.{refl, sym, subst}
 use Rattle.std.proofs.lemmas.Result.{err_from_is_err_and}
 use Rattle.table_model.specs.declared.refusal.Refusal.{Refusal}
-use Rattle.folder_home.specs.PartReads.{IsListed, is_refusal_of_part}
-use Rattle.folder_home.specs.declared.fault.PartFault.TheVariants.{Refused}
-use Rattle.folder_home.specs.Parts.{PartForm}
+use Rattle.folder_parts.specs.PartReads.{IsListed, is_refusal_of_part}
+use Rattle.folder_parts.specs.declared.fault.PartFault.TheVariants.{Refused}
+use Rattle.folder_parts.specs.Parts.{PartForm}
 use Rattle.folder_commands.specs.Skims.{SkimsRead}
 use Rattle.folder_commands.proofs.Skims.{more_lacking}
 use Rattle.folder_commands.proofs.skimming.SkimmingGathers.with.Goals as goal

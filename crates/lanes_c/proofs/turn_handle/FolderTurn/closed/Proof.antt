@@ -18,7 +18,7 @@ use denote.Triple.Walked.{Stays, walk_of}
 use Rattle.std.proofs.raw_atomic.Walks.{proved_at, leaves}
 use Rattle.std.specs.declared.option.Option.{Option}
 use Rattle.std.specs.declared.option.Option.TheVariants.{None}
-use Rattle.folder_replay.specs.Turns.{State, state_of}
+use Rattle.folder_turns.specs.Turns.{State, state_of}
 use Rattle.lanes_c.proofs.TurnHandleFields.{word, Data, made}
 use Rattle.lanes_c.specs.contracts.turn_handle.FolderTurn.closed.{ended, clauses}
 use Rattle.lanes_c.specs.contracts.turn_handle.FolderTurn.closed.Key.{name as #self}

@@ -28,8 +28,8 @@ use Rattle.std.specs.declared.option.Option.TheVariants.{None, Some}
 use Rattle.std.specs.contracts.alloc.Global as heap
 use Rattle.std.proofs.alloc.Global.TheLaws as heap_laws
 use Rattle.std.specs.contracts.impls.GlobalAllocator.TheImpl.{ghosts}
-use Rattle.folder_replay.specs.Turns.{state_of}
-use Rattle.folder_replay.specs.contracts.turn.Turn as held
+use Rattle.folder_turns.specs.Turns.{state_of}
+use Rattle.folder_turns.specs.contracts.turn.Turn as held
 use Rattle.lanes_c.specs.contracts.turn_handle.FolderTurn as table
 use Rattle.lanes_c.proofs.TurnHandleFields.{word, told, either}
 use Rattle.lanes_c.proofs.LooseValues.{both, al, Loose, loose_good, loose_in}

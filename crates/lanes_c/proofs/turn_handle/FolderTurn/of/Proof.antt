@@ -26,9 +26,9 @@ use Rattle.std.specs.contracts.alloc.Global as heap
 use Rattle.std.proofs.alloc.Global.TheLaws as heap_laws
 use Rattle.std.specs.contracts.impls.GlobalAllocator.TheImpl.{ghosts}
 use Rattle.lanes_c.specs.TurnHandles.{boxed_turn}
-use Rattle.folder_replay.specs.Turns.{State, state_of}
-use Rattle.folder_replay.specs.declared.turn.Turn.{Turn}
-use Rattle.folder_replay.specs.contracts.turn.Turn as held
+use Rattle.folder_turns.specs.Turns.{State, state_of}
+use Rattle.folder_turns.specs.declared.turn.Turn.{Turn}
+use Rattle.folder_turns.specs.contracts.turn.Turn as held
 use Rattle.lanes_c.proofs.TurnHandleFields.{word, Data, made}
 use Rattle.lanes_c.proofs.LooseValues.{both, Loose, loose_good, loose_out}
 use Rattle.lanes_c.specs.contracts.turn_handle.FolderTurn.of.{ended, clauses}

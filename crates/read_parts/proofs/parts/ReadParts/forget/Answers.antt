@@ -5,9 +5,9 @@ use Rattle.std.specs.declared.string.String.{String}
 use Rattle.std.proofs.Common.{ap, subst, ◌∙◌}
 use Rattle.folder_protocol.specs.Note.{calls_of}
 use Rattle.folder_protocol.specs.Taking.{bytes_read}
-use Rattle.folder_replay.specs.Orders.{matter_of}
+use Rattle.folder_turns.specs.Orders.{matter_of}
 use Rattle.replica_store.specs.Replica.{Replica}
-use Rattle.replica_commands.specs.Forgetting.{forgetting}
+use Rattle.replica_changes.specs.Forgetting.{forgetting}
 use Rattle.folder_commands.proofs.Commands.{is_some}
 use Rattle.read_parts.specs.Orders.{MayFollow, Replaces}
 use Rattle.read_parts.proofs.Following.{follows, forgets, replaces}

@@ -3,7 +3,7 @@ use Rattle.std.specs.Prelude.{ℕ, List, map, string_bytes, IfOk}
 use Rattle.std.specs.Global.{Global}
 use Rattle.std.specs.declared.string.String.{String}
 use Rattle.std.proofs.Common.{ap, subst, ◌∙◌}
-use Rattle.folder_replay.specs.Orders.{matter_of}
+use Rattle.folder_turns.specs.Orders.{matter_of}
 use Rattle.replica_store.specs.Replica.{Replica}
 use Rattle.read_parts.specs.Orders.{MayFollow}
 use Rattle.read_parts.proofs.Following.{pack_follows}

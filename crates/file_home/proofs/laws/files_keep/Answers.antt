@@ -1,5 +1,0 @@
-use Rattle.file_home.proofs.Homes.{home_laws}
-use Rattle.file_home.proofs.laws.files_keep.Goals as goal
-
-pub returns : goal.returns
-returns c = home_laws

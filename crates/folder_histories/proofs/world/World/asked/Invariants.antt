@@ -1,5 +1,0 @@
-use Rattle.std.proofs.Common.{[]}
-use Rattle.folder_histories.proofs.world.World.asked.Given as goal
-
-abbrev pub ghost-next : goal.ghost-next
-ghost-next a = []

@@ -1,5 +1,0 @@
-use Rattle.folder_history.proofs.All.{folder_model_laws}
-use Rattle.folder_history.proofs.laws.folder_model_laws.Goals as goal
-
-pub returns : goal.returns
-returns c = folder_model_laws

@@ -1,5 +1,0 @@
-use Rattle.folder_history.proofs.Keeping.{folders_keep}
-use Rattle.folder_history.proofs.laws.folders_keep.Goals as goal
-
-pub returns : goal.returns
-returns c = folders_keep

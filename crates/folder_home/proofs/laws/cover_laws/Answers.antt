@@ -1,5 +1,0 @@
-use Rattle.folder_home.proofs.PartsCover.{cover_laws_hold}
-use Rattle.folder_home.proofs.laws.cover_laws.Goals as goal
-
-pub returns : goal.returns
-returns c = cover_laws_hold

@@ -1,6 +1,0 @@
--- The numbers before this one are added up.
-use Rattle.folder_home.proofs.SummedSoFar.{SummedSoFar}
-use Rattle.folder_home.proofs.room.sum_of.Given as goal
-
-abbrev pub invariant-loop-index : goal.invariant-loop-index
-invariant-loop-index l = SummedSoFar l.numbers l.index l.total

@@ -1,4 +1,0 @@
-use Rattle.folder_replay.proofs.turn.Turn.go_on.Given as goal
-
-abbrev pub ghost-step : goal.ghost-step
-ghost-step g a = g.before

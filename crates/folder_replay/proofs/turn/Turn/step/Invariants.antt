@@ -1,4 +1,0 @@
-use Rattle.folder_replay.proofs.turn.Turn.step.Given as goal
-
-abbrev pub ghost-next : goal.ghost-next
-ghost-next g a = g.before

@@ -1,0 +1,19 @@
+-- The calls told come after those before.
+use Rattle.std.proofs.Common.{ℕ, List}
+use Rattle.folder_model.specs.Call.{Call}
+use Rattle.folder_model.specs.Turn.{InTurn}
+use Rattle.folder_turns.specs.Calls.{call_asked}
+use Rattle.folder_turns.specs.Orders.{EndSays, matter_of}
+use Rattle.folder_turns.proofs.Runs.{holds_after}
+use Rattle.folder_turns.proofs.Steps.{asks_more, ends_more}
+use Rattle.folder_turns.proofs.turn.Turn.step.Goals as goal
+
+pub returns-clause-in_turn : goal.returns-clause-in_turn
+returns-clause-in_turn g c = let turn = c.args.self.now in asks_more c.next.result _ _ c.next.ensures.in_turn (λ request asked parts all may.
+    holds_after (λ (whole : List ℕ) (calls : List Call). InTurn parts calls (call_asked whole request))
+    c.as_slice.result.now turn.order.bytes.items c.as_slice-2.result.now turn.told.items g.before c.as_slice.ensures.value c.as_slice-2.ensures.value (asked parts may.0 all may))
+
+pub returns-clause-ends : goal.returns-clause-ends
+returns-clause-ends g c = let turn = c.args.self.now in ends_more c.next.result _ _ c.next.ensures.ends (λ end said parts may.
+    holds_after (λ (whole : List ℕ) (calls : List Call). EndSays turn.order.task (matter_of turn.order) end parts g.before calls)
+    c.as_slice.result.now turn.order.bytes.items c.as_slice-2.result.now turn.told.items g.before c.as_slice.ensures.value c.as_slice-2.ensures.value (said parts may.0 may))

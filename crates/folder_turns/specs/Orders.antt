@@ -1,0 +1,121 @@
+-- When an order may be followed, and what its end says.
+use Rattle.std.specs.Prelude.{◌≡◌, ℕ, true, List, map, Option, Some, None, Result, Ok, Err, IfOk, MatchResult}
+use Rattle.std.specs.String.{string_bytes}
+use Rattle.std.specs.Global.{Global, Vec}
+use Rattle.std.specs.declared.string.String.{String}
+use Rattle.folder_model.specs.Call.{Call, can_settle}
+use Rattle.folder_model.specs.Parts.{Parts, IsNoPart}
+use Rattle.folder_model.specs.Turn.{Gave, IsStored, listing_of}
+use Rattle.folder_model.specs.Disk.{Among}
+use Rattle.folder_protocol.specs.Causes.{Fails, HasCall, Lacks, LookCause}
+use Rattle.folder_protocol.specs.Goes.{AreJoined, AreRemoved}
+use Rattle.folder_protocol.specs.Keeping.{AreKept}
+use Rattle.folder_protocol.specs.Linking.{LinksOnly, LinksNone, WasSo, Watches, Each, One, HasEach}
+use Rattle.folder_protocol.specs.declared.putting.Outcome.{Outcome}
+use Rattle.folder_protocol.specs.declared.putting.Outcome.TheVariants.{OnDisk}
+use Rattle.folder_turns.specs.declared.order.Task.{Task}
+use Rattle.folder_turns.specs.declared.order.Task.TheVariants as tasks
+use Rattle.folder_turns.specs.declared.order.Order.{Order}
+use Rattle.folder_turns.specs.declared.order.End.{End}
+use Rattle.folder_turns.specs.declared.order.End.TheVariants as ends
+
+-- with what something is done
+pub record Matter : Type 0 where
+  pub temporary : List ℕ
+  pub name : List ℕ
+  pub bytes : List ℕ
+  pub names : List (List ℕ)
+
+-- with what an order is followed
+abbrev pub matter_of : Order → Matter
+matter_of order =
+    record { temporary = string_bytes order.temporary; name = string_bytes order.name; bytes = order.bytes.items; names = map string_bytes order.names.items }
+
+-- what is asked of a task's matter after some calls
+abbrev pub Suits : Task → Matter → Parts → List Call → Type 0
+Suits tasks.Put m parts before = (m.name ≡ parts.name_of m.bytes) × IsNoPart parts m.temporary
+Suits tasks.Keep m parts before = m.name ≡ parts.name_of m.bytes
+Suits tasks.Replace m parts before = (m.name ≡ parts.name_of m.bytes) × IsNoPart parts m.temporary × AreJoined parts m.bytes m.names before
+Suits tasks.Remove m parts before = (m.name ≡ parts.name_of m.bytes) × AreJoined parts m.bytes m.names before
+Suits tasks.List m parts before = Unit {0}
+Suits tasks.KeepAll m parts before = Unit {0}
+Suits tasks.PutJudged m parts before = (m.name ≡ parts.name_of m.bytes) × IsNoPart parts m.temporary
+
+-- When the calls of a task are in turn after others: no sync of the folder has failed before.
+abbrev pub MayTake : Task → Matter → Parts → List Call → Type 0
+MayTake task m parts before = (can_settle before ≡ true) × Suits task m parts before
+
+-- A listing under the exclusive lock, which was had since it began, gave no names but these.
+abbrev pub HasOnlySeen : List (List ℕ) → List Call → List Call → Type 0
+HasOnlySeen names before calls = WasSo (Watches (Each (λ name. Among name names))) before calls
+
+-- One gave a name that is none of these.
+abbrev pub HasUnseen : List (List ℕ) → List Call → List Call → Type 0
+HasUnseen names before calls = WasSo (Watches (One (λ name. Among name names → ⊥))) before calls
+
+-- When files are given names: for a task that puts a part in the place of others, only under the exclusive lock, which was had since a listing
+-- gave each of them; for one that puts a part which is to go with all that are there, since one gave no names but those that were seen; and
+-- never for a task that puts none.
+abbrev pub LinksInTask : Task → Matter → List Call → List Call → Type 0
+LinksInTask tasks.Put m before calls = Unit {0}
+LinksInTask tasks.Replace m before calls = LinksOnly (Watches (HasEach m.names)) before calls
+LinksInTask tasks.PutJudged m before calls = LinksOnly (Watches (Each (λ name. Among name m.names))) before calls
+LinksInTask task m before calls = LinksNone before calls
+
+-- What the end of a task says of all calls, after those before: a part that is on the disk is stored; names are those of the last listing; the
+-- parts of these names were removed, or are kept; and a part was put only if a listing under the exclusive lock gave no names but those that
+-- were seen.
+abbrev pub Says : {E : Type 0} → Task → Matter → Result End E → Parts → List Call → List Call → Type 0
+Says tasks.Put m result parts before calls = IfOk result (λ end. end ≡ ends.Came OnDisk → IsStored parts m.bytes calls)
+Says tasks.Keep m result parts before calls = IfOk result (λ end. end ≡ ends.Came OnDisk → IsStored parts m.bytes calls)
+Says tasks.Replace m result parts before calls = IfOk result (λ end. end ≡ ends.Came OnDisk → AreRemoved m.names before calls × IsStored parts m.bytes calls)
+Says tasks.Remove m result parts before calls = IfOk result (λ end. end ≡ ends.Came OnDisk → AreRemoved m.names before calls × IsStored parts m.bytes calls)
+Says tasks.List m result parts before calls =
+    IfOk result (λ end. (names : Vec (String Global)) → end ≡ ends.Listed names → listing_of calls ≡ Gave (map string_bytes names.items))
+Says tasks.KeepAll m result parts before calls = IfOk result (λ end. AreKept parts m.names before calls)
+Says tasks.PutJudged m result parts before calls =
+    IfOk result (λ end. (end ≡ ends.Came OnDisk → IsStored parts m.bytes calls) × ((how : Outcome) → end ≡ ends.Came how → HasOnlySeen m.names before calls))
+
+-- What an end comes of: what came of a part has its cause, as a sync that failed; a listing did not give one of these names; or a listing under
+-- the exclusive lock gave one that was not seen.
+abbrev pub EndCause : Matter → End → List Call → List Call → Type 0
+EndCause m (ends.Came how) before calls = LookCause how m.name m.bytes before calls
+EndCause m ends.Overtaken before calls = HasCall (Lacks m.names) before calls
+EndCause m ends.Unseen before calls = HasUnseen m.names before calls
+EndCause m (ends.Listed names) before calls = Unit {0}
+EndCause m ends.Kept before calls = Unit {0}
+
+-- An end has its cause, and an error is that of a call that failed.
+abbrev pub Caused : {E : Type 0} → Matter → Result End E → List Call → List Call → Type 0
+Caused m result before calls = MatchResult result (λ end. EndCause m end before calls) (λ error. HasCall Fails before calls)
+
+-- what is said once an order is followed: what the end of its task says, its cause, and when files were given names
+abbrev pub EndSays : {E : Type 0} → Task → Matter → Result End E → Parts → List Call → List Call → Type 0
+EndSays task m result parts before calls = Says task m result parts before calls × Caused m result before calls × LinksInTask task m before calls
+
+-- the end of a task that is about one part
+abbrev pub came : {E : Type 0} → Result Outcome E → Result End E
+came (Ok outcome) = Ok (ends.Came outcome)
+came (Err error) = Err error
+
+-- of a replacement
+abbrev pub replaced : {E : Type 0} → Result (Option Outcome) E → Result End E
+replaced (Ok (Some outcome)) = Ok (ends.Came outcome)
+replaced (Ok None) = Ok ends.Overtaken
+replaced (Err error) = Err error
+
+-- of a put of a part that is to go with all that are there
+abbrev pub judged : {E : Type 0} → Result (Option Outcome) E → Result End E
+judged (Ok (Some outcome)) = Ok (ends.Came outcome)
+judged (Ok None) = Ok ends.Unseen
+judged (Err error) = Err error
+
+-- of a listing
+abbrev pub listed : {E : Type 0} → Result (Vec (String Global)) E → Result End E
+listed (Ok names) = Ok (ends.Listed names)
+listed (Err error) = Err error
+
+-- of a task that gives nothing
+abbrev pub kept : {E : Type 0} → Result (Unit {0}) E → Result End E
+kept (Ok done) = Ok ends.Kept
+kept (Err error) = Err error

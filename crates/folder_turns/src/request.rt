@@ -1,0 +1,66 @@
+//! Calls on a folder as they are asked for, and what came of them.
+ghost use Rattle.std.specs.Prelude.{◌≡◌};
+ghost use Rattle.folder_turns.specs.Calls.{is_done};
+
+/// A call that is to be made on a folder. Files are named by their names in it.
+#[derive(Debug, Drop)]
+pub enum Request {
+    /// Make a file of this name, which nothing has, and open it.
+    Make { name: String },
+    /// Add to the open file the bytes that are put, from this position of them on, or only the first of these.
+    Write { from: usize },
+    /// Sync the open file.
+    Sync,
+    /// Give the file of one name a second name, unless another file has that.
+    Link { from: String, to: String },
+    /// Remove a name. One that is gone is no error.
+    Remove { name: String },
+    /// Sync the folder.
+    Settle,
+    /// Take the exclusive lock of the folder.
+    Lock,
+    /// Take the shared lock of the folder.
+    LockShared,
+    /// List the names in the folder, in ascending order.
+    ListNames,
+    /// Let the lock of the folder go.
+    Unlock,
+    /// Open the file of this name, if there is one, and read its bytes.
+    ReadFile { name: String },
+}
+
+/// What came of a call.
+#[derive(Debug, Drop)]
+pub enum Answer {
+    /// It failed. It may have been done nevertheless, or a part of it.
+    Failed,
+    /// The same, and the system said why by this number.
+    FailedBy { code: i32 },
+    Done,
+    /// Another file has the name that `Link` was to give.
+    Taken,
+    /// `Write` wrote so many bytes.
+    Wrote { count: usize },
+    /// `ListNames` gave these names.
+    Listed { names: Vec<String> },
+    /// `ReadFile` found no file.
+    Missing,
+    /// `ReadFile` found these bytes.
+    Found { bytes: Vec<u8> },
+}
+
+impl Answer {
+    /// Whether it is that the call was done.
+    pub(crate) fn is_done(&self) -> bool
+        ensures { result ≡ is_done self.now }
+    {
+        matches!(self, Answer::Done)
+    }
+}
+
+/// A call that was made, and what came of it. An answer that does not fit the call counts as a failure.
+#[derive(Debug, Drop)]
+pub struct Told {
+    pub request: Request,
+    pub answer: Answer,
+}

@@ -1,0 +1,125 @@
+//! A call that a run makes.
+ghost use Rattle.std.specs.Prelude.{◌≡◌, ◌++◌, ℕ, List, true, drop, IfOk, IfSome};
+ghost use Rattle.std.specs.String.{string_bytes};
+ghost use Rattle.folder_protocol.specs.Note.{calls_of};
+ghost use Rattle.folder_turns.specs.Calls.{call_asked, wanted_of, answered};
+ghost use Rattle.folder_turns.specs.declared.request.Answer.TheVariants.{Failed};
+
+use crate::replay::Fault;
+use crate::request::Request;
+use folder_protocol::Record;
+use std::alloc::Global;
+
+/// A call that a run makes on its folder.
+#[derive(Clone, Copy)]
+pub enum Wanted<'b> {
+    Make(&'b str),
+    Write(&'b [u8]),
+    Sync,
+    Link(&'b str, &'b str),
+    Remove(&'b str),
+    Settle,
+    Lock,
+    LockShared,
+    ListNames,
+    Unlock,
+    ReadFile(&'b str),
+}
+
+/// The offset at which some bytes begin that are the last of others.
+fn beginning(whole: &[u8], bytes: &[u8]) -> Option<usize>
+    ensures { IfSome result (λ from. drop from whole.now ≡ bytes.now) }
+{
+    let from = whole.len().checked_sub(bytes.len())?;
+    let (_, rest) = whole.split_at(from);
+    if rest == bytes { Some(from) } else { None }
+}
+
+impl<'b> Wanted<'b> {
+    /// Whether it is a call that was asked for.
+    pub fn is(self, request: &Request, whole: &[u8]) -> bool
+        ensures { result ≡ true → call_asked whole.now request.now ≡ wanted_of self.entry }
+    {
+        match (self, request) {
+            (Wanted::Make(name), Request::Make { name: asked }) => asked.as_str() == name,
+            (Wanted::Write(bytes), Request::Write { from }) => beginning(whole, bytes)
+                == Some(*from),
+            (Wanted::Sync, Request::Sync) => true,
+            (
+                Wanted::Link(from, to),
+                Request::Link {
+                    from: first,
+                    to: second,
+                },
+            ) => { first.as_str() == from && second.as_str() == to }
+            (Wanted::Remove(name), Request::Remove { name: asked }) => asked.as_str() == name,
+            (Wanted::Settle, Request::Settle) => true,
+            (Wanted::Lock, Request::Lock) => true,
+            (Wanted::LockShared, Request::LockShared) => true,
+            (Wanted::ListNames, Request::ListNames) => true,
+            (Wanted::Unlock, Request::Unlock) => true,
+            (Wanted::ReadFile(name), Request::ReadFile { name: asked }) => asked.as_str() == name,
+            _ => false,
+        }
+    }
+
+    /// The call as it is asked for, if these bytes are put.
+    pub fn asked(self, alloc: Global, whole: &[u8]) -> Result<Request, Fault>
+        ensures { IfOk result (λ request. call_asked whole.now request ≡ wanted_of self.entry) }
+    {
+        Ok(match self {
+            Wanted::Make(name) => Request::Make {
+                name: owned(alloc, name)?,
+            },
+            Wanted::Write(bytes) => match beginning(whole, bytes) {
+                Some(from) => Request::Write { from },
+                None => return Err(Fault::Strayed),
+            },
+            Wanted::Sync => Request::Sync,
+            Wanted::Link(from, to) => Request::Link {
+                from: owned(alloc, from)?,
+                to: owned(alloc, to)?,
+            },
+            Wanted::Remove(name) => Request::Remove {
+                name: owned(alloc, name)?,
+            },
+            Wanted::Settle => Request::Settle,
+            Wanted::Lock => Request::Lock,
+            Wanted::LockShared => Request::LockShared,
+            Wanted::ListNames => Request::ListNames,
+            Wanted::Unlock => Request::Unlock,
+            Wanted::ReadFile(name) => Request::ReadFile {
+                name: owned(alloc, name)?,
+            },
+        })
+    }
+
+    /// Notes that it failed.
+    pub fn note_failed(self, calls: &mut Record)
+        ensures { calls_of calls.new.noted ≡ answered (wanted_of self.entry) Failed ++ calls_of calls.old.noted }
+    {
+        match self {
+            Wanted::Make(name) => calls.made(name, false),
+            Wanted::Write(bytes) => calls.wrote_not(bytes),
+            Wanted::Sync => calls.synced(false),
+            Wanted::Link(from, to) => calls.linked_not(from, to),
+            Wanted::Remove(name) => calls.removed(name, false),
+            Wanted::Settle => calls.settled(false),
+            Wanted::Lock => calls.locked(false),
+            Wanted::LockShared => calls.locked_shared(false),
+            Wanted::ListNames => calls.listed_not(),
+            Wanted::Unlock => calls.unlocked(),
+            Wanted::ReadFile(name) => calls.unread(name),
+        }
+    }
+}
+
+/// A name of its own.
+fn owned(alloc: Global, name: &str) -> Result<String, Fault>
+    ensures { IfOk result (λ text. string_bytes text ≡ name.now) }
+{
+    match String::from_str(alloc, name) {
+        Ok(text) => Ok(text),
+        Err(_) => Err(Fault::OutOfMemory),
+    }
+}

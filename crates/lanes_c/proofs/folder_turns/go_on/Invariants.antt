@@ -1,4 +1,0 @@
-use Rattle.lanes_c.proofs.folder_turns.go_on.Given as goal
-
-abbrev pub ghost-go_on : goal.ghost-go_on
-ghost-go_on g a = g.before

@@ -1,4 +1,0 @@
-use Rattle.lanes_c.proofs.folder_turns.lanes_folder_next.Given as goal
-
-abbrev pub ghost-drive : goal.ghost-drive
-ghost-drive g a = g.before

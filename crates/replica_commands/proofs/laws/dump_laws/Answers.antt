@@ -1,6 +1,0 @@
--- The laws are those of the lines of live rows, and of batches under consecutive names.
-use Rattle.replica_commands.proofs.DumpRows.{dump_laws_hold}
-use Rattle.replica_commands.proofs.laws.dump_laws.Goals as goal
-
-pub returns : goal.returns
-returns c = dump_laws_hold

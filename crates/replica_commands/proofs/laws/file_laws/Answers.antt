@@ -1,6 +1,0 @@
--- The laws are those of the sets that files hold.
-use Rattle.replica_commands.proofs.FileLaws.{file_laws_hold}
-use Rattle.replica_commands.proofs.laws.file_laws.Goals as goal
-
-pub returns : goal.returns
-returns c = file_laws_hold

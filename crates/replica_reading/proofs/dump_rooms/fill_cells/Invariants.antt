@@ -1,7 +1,0 @@
--- The cells so far are those of the first rooms.
-use Rattle.std.proofs.Common.{◌≡◌, take}
-use Rattle.replica_reading.specs.DumpRooms.{room_cells}
-use Rattle.replica_reading.proofs.dump_rooms.fill_cells.Given as goal
-
-abbrev pub invariant-loop-room : goal.invariant-loop-room
-invariant-loop-room l = l.cells.items ≡ room_cells (take l.room-index l.rooms) l.row
