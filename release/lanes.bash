@@ -3,7 +3,7 @@ _lanes() {
     local word=${COMP_WORDS[COMP_CWORD]} before=${COMP_WORDS[COMP_CWORD - 1]} options=
     COMPREPLY=()
     if [ "$COMP_CWORD" = 1 ]; then
-        mapfile -t COMPREPLY < <(compgen -W 'create import query partial combine finish delete delete-rows forget dump inspect summary offer apply check merge spread pack run help --help --version' -- "$word")
+        mapfile -t COMPREPLY < <(compgen -W 'create import query delete delete-rows forget dump inspect check pack summary offer apply merge spread partial combine finish run help --help --version' -- "$word")
         return
     fi
     case $before in
@@ -19,21 +19,21 @@ _lanes() {
         create) options='--quiet --help' ;;
         import) options='--batch --no-header --separator --null --columns --whole-lines --quiet --help' ;;
         query) options='--format --help' ;;
-        partial) options='--help' ;;
-        combine) options='--help' ;;
-        finish) options='--expect --format --help' ;;
         delete) options='--quiet --help' ;;
         delete-rows) options='--held --quiet --help' ;;
         forget) options='--quiet --help' ;;
         dump) options='--names --where --columns --help' ;;
-        inspect) options='--batches --format --help' ;;
+        inspect) options='--batches --digest --format --help' ;;
+        check) options='--digest --help' ;;
+        pack) options='--all --quiet --help' ;;
         summary) options='--help' ;;
         offer) options='--help' ;;
         apply) options='--quiet --help' ;;
-        check) options='--help' ;;
         merge) options='--quiet --help' ;;
         spread) options='--quiet --help' ;;
-        pack) options='--all --quiet --help' ;;
+        partial) options='--help' ;;
+        combine) options='--help' ;;
+        finish) options='--expect --format --help' ;;
         run) options='--explain --help' ;;
     esac
     if [[ $word == -* ]]; then
