@@ -134,6 +134,11 @@ uint8_t lanes_check(const uint8_t *file, size_t file_length, uint8_t *out, size_
  *
  * Gives: the answer's text: a line of headings, and a line for each row, fields joined by commas. A null is NULL, a whole number has up to
  * 39 digits, and a mean six decimals.
+ *
+ * Groups and distinct values are found by a hash whose key is the same in each process. So whoever chooses the rows of the file can make
+ * a query with GROUP BY or DISTINCT take hours (see lanes_hash_key). If rows come from others, call lanes_open, lanes_hash_key and then
+ * lanes_ask in place of this call.
+ *
  * Refused, in this order: LANES_SYNTAX at the first byte that is no UTF-8; the file's first fault; LANES_SYNTAX, LANES_NUMBER_TOO_LARGE,
  * LANES_TOO_DEEP; LANES_NO_SUCH_TABLE; LANES_NO_SUCH_COLUMN, LANES_NOT_GROUPED. Their places are bytes of the query. */
 uint8_t lanes_query(const uint8_t *file, size_t file_length, const uint8_t *sql, size_t sql_length, uint8_t *out, size_t room,
@@ -144,6 +149,10 @@ uint8_t lanes_query(const uint8_t *file, size_t file_length, const uint8_t *sql,
  * Gives: the texts of the answers, one after another, each as lanes_query gives it. The answer of query i, from 0, ends in front of the
  * byte ends[i] of `out`, and the next one begins there. `ends` has room for ends_room numbers. It is written if there is room for
  * all of them, also if `out` has too little room; otherwise it is unchanged. It is never null, and overlaps nothing.
+ *
+ * The key of their hashes is that of lanes_query, the same in each process. If rows come from others, call lanes_open, lanes_hash_key and
+ * then lanes_ask for each query, in place of this call.
+ *
  * Refused, in this order: the file's first fault; the first query that lanes_query refuses, with what that refuses it as. place->second
  * says which query it is, from 0, and place->first is a byte of that query. */
 uint8_t lanes_queries(const uint8_t *file, size_t file_length, const uint8_t *sqls, size_t sqls_length, uint8_t *out, size_t room,
