@@ -10,9 +10,11 @@ one. Each is the least of a few runs, program and sqlite3 in turns. What is meas
 
 The rows are written by a process of their own: a run's peak is at least the memory of the process that starts it.
 """
-import argparse, os, random, shutil, subprocess, sys, tempfile
+import os, random, shutil, subprocess, sys, tempfile
 
-TOP = os.path.dirname(os.path.dirname(os.path.abspath(__file__)))
+sys.path.insert(0, os.path.dirname(os.path.abspath(__file__)))
+from queries import options_of
+
 CHEAP = "SELECT COUNT(*) FROM T"
 GROUPS = [(10, 5), (500, 25), (10_000, 100), (100_000, 400), (1_000_000, 1000)]
 MEASURES = "COUNT(*), SUM(N), AVG(M)"
@@ -80,12 +82,8 @@ def show(name, rows, found):
 
 
 def main():
-    asked = argparse.ArgumentParser(description="Times GROUP BY of up to 1,000,000 groups, compared with sqlite3.")
-    asked.add_argument("--program", default=os.path.join(TOP, "crates", "lanes", "out", "lanes"))
-    asked.add_argument("--rows", type=int, default=2_000_000)
-    asked.add_argument("--runs", type=int, default=3)
+    asked = options_of("Times GROUP BY of up to 1,000,000 groups, compared with sqlite3.", rows=2_000_000, runs=3)
     asked.add_argument("--data")
-    asked.add_argument("--write", help=argparse.SUPPRESS)
     given = asked.parse_args()
     if given.write:
         return write_rows(given.write, given.rows)

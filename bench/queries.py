@@ -98,6 +98,16 @@ def plain_loop(room):
     return made
 
 
+def options_of(description, rows, runs):
+    """The options of a bench that writes its rows by a process of its own (`--write`), with how many rows and runs there are if not said."""
+    options = argparse.ArgumentParser(description=description)
+    options.add_argument("--program", default=os.path.join(TOP, "crates", "lanes", "out", "lanes"))
+    options.add_argument("--rows", type=int, default=rows)
+    options.add_argument("--runs", type=int, default=runs)
+    options.add_argument("--write", help=argparse.SUPPRESS)
+    return options
+
+
 def main():
     asked = argparse.ArgumentParser(description="Times queries over a canonical file.")
     asked.add_argument("--program", default=os.path.join(TOP, "crates", "lanes", "out", "lanes"))

@@ -10,12 +10,11 @@ is that of lanes without the opening: what many of one query in one call take mo
 An empty field is text in sqlite3 until an UPDATE makes NULL of it, which is not counted. The answers are compared; sqlite3's means are
 floats, so of these six decimals are. In a folder that is named the rows and files are kept for the next time.
 """
-import argparse, gzip, os, pathlib, shutil, subprocess, sys, tempfile
+import gzip, os, pathlib, shutil, subprocess, sys, tempfile
 
 sys.path.insert(0, os.path.dirname(os.path.abspath(__file__)))
 import queries
 
-TOP = pathlib.Path(__file__).resolve().parent.parent
 NAMES = queries.COLUMNS.split()[::2]
 INDEX = "CREATE INDEX BY_SITE ON T(SITE)"
 ROW = "137,19400,2,7,,100038399999"
@@ -147,12 +146,8 @@ def print_queries(sides, runs):
 
 
 def main():
-    asked = argparse.ArgumentParser(description="Times lanes and sqlite3 on one table.")
-    asked.add_argument("--program", default=os.fspath(TOP / "crates" / "lanes" / "out" / "lanes"))
-    asked.add_argument("--rows", type=int, default=6_400_000)
-    asked.add_argument("--runs", type=int, default=5)
+    asked = queries.options_of("Times lanes and sqlite3 on one table.", rows=6_400_000, runs=5)
     asked.add_argument("--room")
-    asked.add_argument("--write", help=argparse.SUPPRESS)
     given = asked.parse_args()
     if given.write:
         return write_rows(given.write, given.rows)

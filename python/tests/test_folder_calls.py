@@ -126,16 +126,20 @@ class Each(InFolder):
                 os._exit(1)
         return os.waitstatus_to_exitcode(os.waitpid(child, 0)[1])
 
+    def done(self, act: Callable[[Folder], object]) -> Tuple[str, str, Dict[str, int]]:
+        """The rows before a change and after it, and how many calls of each kind it makes."""
+        folder = self.begin()
+        before, counted = self.rows(), Counted()
+        with counted.counting():
+            act(folder)
+        return before, self.rows(), counted.counts
+
     def test_each_call_fails_in_turn_and_nothing_is_lost(self) -> None:
         errors = {kind: itertools.cycle(codes) for kind, codes in ERRORS.items()}
         tried: Dict[Tuple[str, int], int] = {}
         for name, act in self.changes:
-            folder = self.begin()
-            before, counted = self.rows(), Counted()
-            with counted.counting():
-                act(folder)
-            after = self.rows()
-            for kind, count in counted.counts.items():
+            before, after, counts = self.done(act)
+            for kind, count in counts.items():
                 each = ERRORS[kind] if kind in EACH else ()
                 for when, code in [(when, code) for when in range(1, count + 1) for code in each or (next(errors[kind]),)]:
                     with self.subTest(name, kind=kind, when=when, error=errno.errorcode[code]):
@@ -181,13 +185,9 @@ class Each(InFolder):
     def test_a_change_that_is_killed_at_a_call_is_whole_or_is_not_there(self) -> None:
         killed = 0
         for name, act in self.changes:
-            folder = self.begin()
-            before, counted = self.rows(), Counted()
-            with counted.counting():
-                act(folder)
-            after = self.rows()
+            before, after, counts = self.done(act)
             for kind in KILLED_AT:
-                for when in range(1, counted.counts.get(kind, 0) + 1):
+                for when in range(1, counts.get(kind, 0) + 1):
                     with self.subTest(name, kind=kind, when=when):
                         folder = self.begin()
 

@@ -11,7 +11,7 @@ import tempfile
 import time
 
 from compiling import C99, CPP17, DRIVERS, TOP, compiled, valgrind
-from injecting import each_call, traced
+from injecting import each_call, held_file, traced
 from room import Room
 
 LOCK = ".t.lanes-lock"
@@ -54,25 +54,15 @@ def a_lock_that_others_rename_or_remove_is_not_had(library, folder):
     tried_under(library, folder, "held_races")
 
 
-def held(program, known={}):
-    """The rows of the file, and what a check says of it. None if there is no file. Files that were looked at before are known by their bytes."""
-    if not os.path.exists(program.path("t")):
-        return None
-    data = program.get("t")
-    if data not in known:
-        known[data] = sorted(program.ok("dump", "t").split(b"\n")), program.ok("check", "t")
-    return known[data]
-
-
 class Change:
     """A change of the file by the example: what the file holds before it and after it."""
 
     def __init__(self, example, program, words, earlier):
         self.example, self.program, self.words, self.earlier = example, program, words, earlier
         self.prepare()
-        self.before = held(program)
+        self.before = held_file(program)
         example.ok(*words, prints=b"ok\n")
-        self.after = held(program)
+        self.after = held_file(program)
 
     def prepare(self):
         for name in self.example.names():
@@ -82,7 +72,7 @@ class Change:
 
     def judge(self, ended):
         """What an end has left is right, and the program goes on from there. No lock is left then."""
-        at, now = f"{self.words}, {ended}", held(self.program)
+        at, now = f"{self.words}, {ended}", held_file(self.program)
         if ended.is_killed:
             assert now in (self.before, self.after), f"{at}: the file holds {now}"
             assert not ended.out or now == self.after, f"{at}: it had answered {ended.out!r}, and the file is the old one"

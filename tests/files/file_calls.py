@@ -3,7 +3,7 @@ command makes of it, whole; what is answered `ok` is there; and the same command
 
 import os
 
-from injecting import NAMED, Ended, Tries, each_call, each_kind_was_tried, faults_seen, wrong_program
+from injecting import NAMED, Tries, each_call, each_kind_was_tried, faults_seen, held_file, is_end_refused, wrong_program
 from room import COLUMNS
 
 LOCK = ".t.lanes-lock"
@@ -25,18 +25,6 @@ COMMANDS = (
 )
 
 
-def held(room, known={}):
-    """What the file holds: its rows without their names, as names may be drawn, and what a check says of it. None if there is no file.
-
-    Files that were looked at before are known by their bytes."""
-    if not os.path.exists(room.path("t")):
-        return None
-    data = room.get("t")
-    if data not in known:
-        known[data] = sorted(room.ok("dump", "t").split(b"\n")), room.ok("check", "t")
-    return known[data]
-
-
 class Command:
     """A command on the file `t`, with what there is before it and after it."""
 
@@ -48,9 +36,9 @@ class Command:
             room.ok("import", "--no-header", "--batch", "1.2", "t", "-", given=b"4,40\n")
             room.ok("delete", "t", "A = 4")
             self.start = room.get("t")
-        self.before = held(room)
+        self.before = held_file(room)
         room.ok(*words)
-        self.after = held(room)
+        self.after = held_file(room)
         assert self.before != self.after, f"{words} changes nothing"
 
     def prepare(self):
@@ -61,7 +49,7 @@ class Command:
 
     def judge(self, ended):
         """What an end has left is right, and the command goes on from there."""
-        room, at, now = self.room, f"{' '.join(self.words)}, {ended}", held(self.room)
+        room, at, now = self.room, f"{' '.join(self.words)}, {ended}", held_file(self.room)
         if ended.is_killed:
             assert now in (self.before, self.after), f"{at}: the file holds {now}"
             assert not ended.out or now == self.after, f"{at}: it had answered {ended.out!r}, and the file is the old one"
@@ -79,7 +67,7 @@ class Command:
         """The same command again, or if its work is done already another one. No lock is left."""
         if now == self.before:
             self.room.ok(*self.words)
-            assert held(self.room) == self.after, f"after {at} the same command leaves {held(self.room)}"
+            assert held_file(self.room) == self.after, f"after {at} the same command leaves {held_file(self.room)}"
         else:
             self.room.ok("delete-rows", "t", "9.9", "0", "0")
         self.room.only(*INPUTS, "t")
@@ -127,18 +115,6 @@ def an_end_of_a_command_that_is_wrong_is_refused(room):
     put_inputs(room)
     command = Command(room, ("import", "--no-header", "--batch", "2.1", "t", "rows"))
 
-    def is_refused(kind, is_killed, status, out, err, is_done, left=None):
-        command.prepare()
-        if is_done:
-            room.ok(*command.words)
-        if left:
-            room.put(left, b"")
-        try:
-            command.judge(Ended(kind, 1, is_killed, status, out, err))
-        except AssertionError:
-            return True
-        return False
-
     ok, unsynced, fault = b"ok batches=1 new=1 rows=1\n", b"t: this was replaced, but its folder could not be synced\n", b"refused WriteFault\nt: no room\n"
     for wrong in (
         ("write", False, 0, ok, b"", False),
@@ -152,7 +128,7 @@ def an_end_of_a_command_that_is_wrong_is_refused(room):
         ("write", False, 1, b"", fault, False, LOCK),
         ("write", True, -9, b"", b"", False, "notes"),
     ):
-        assert is_refused(*wrong), f"{wrong} is not refused"
+        assert is_end_refused(command, *wrong), f"{wrong} is not refused"
     for right in (
         ("write", True, -9, b"", b"", False),
         ("write", True, -9, ok, b"", True, LOCK),
@@ -160,7 +136,7 @@ def an_end_of_a_command_that_is_wrong_is_refused(room):
         ("fsync", False, 0, ok, unsynced, True),
         ("flock", False, 1, b"", fault, False, LOCK),
     ):
-        assert not is_refused(*right), f"{right} is refused"
+        assert not is_end_refused(command, *right), f"{right} is refused"
 
 
 TESTS = [

@@ -86,6 +86,32 @@ def each_call(room, words, prepare):
             yield ended_with(room, words, kind, when, is_killed)
 
 
+def held_file(room, known={}):
+    """What the file `t` holds: its rows without their names, as names may be drawn, and what a check says of it. None if there is no file.
+
+    Files that were looked at before are known by their bytes."""
+    if not os.path.exists(room.path("t")):
+        return None
+    data = room.get("t")
+    if data not in known:
+        known[data] = sorted(room.ok("dump", "t").split(b"\n")), room.ok("check", "t")
+    return known[data]
+
+
+def is_end_refused(command, kind, is_killed, status, out, err, is_done, left=None):
+    """Whether a command's judge says that an end of it is wrong, if its work was done before or not, and a file of a name was left."""
+    command.prepare()
+    if is_done:
+        command.room.ok(*command.words)
+    if left:
+        command.room.put(left, b"")
+    try:
+        command.judge(Ended(kind, 1, is_killed, status, out, err))
+    except AssertionError:
+        return True
+    return False
+
+
 def faults_seen(command, kind):
     """What is said against a command that is killed at each call of a kind, of whichever of its processes."""
     command.prepare()

@@ -4,7 +4,7 @@ import os
 
 import pairs
 from folder_calls import Command, make_starts
-from injecting import Ended
+from injecting import is_end_refused
 from ledger import Ledger, values_of
 from parts import make_folder, parts_of
 from storm import Storm
@@ -26,14 +26,6 @@ def an_end_of_a_command_that_is_wrong_is_refused(room):
     make_starts(room)
     command = Command(room, ("import", "--no-header", "--batch", "8.8", "d", "rows"))
 
-    def judged(kind, is_killed, status, out, err, is_done, left=None):
-        command.prepare()
-        if is_done:
-            room.ok(*command.words)
-        if left:
-            room.put(left, b"")
-        return is_refused(command.judge, Ended(kind, 1, is_killed, status, out, err))
-
     ok, unsynced, fault = b"ok batches=1 new=1 rows=1\n", b"d: this is there, but it could not be synced\n", b"refused WriteFault\nd: no room\n"
     for wrong in (
         ("write", False, 0, ok, b"", False),
@@ -48,7 +40,7 @@ def an_end_of_a_command_that_is_wrong_is_refused(room):
         ("write", False, 1, b"", fault, False, f"d/.part-{'0' * 16}"),
         ("write", True, -9, b"", b"", False, "d/notes"),
     ):
-        assert judged(*wrong), f"{wrong} is not refused"
+        assert is_end_refused(command, *wrong), f"{wrong} is not refused"
     for right in (
         ("write", True, -9, b"", b"", False),
         ("write", True, -9, ok, b"", True),
@@ -57,7 +49,7 @@ def an_end_of_a_command_that_is_wrong_is_refused(room):
         ("write", False, 1, b"", b"refused WriteFault\nlanes import d: standard output: no room\n", True),
         ("write", True, -9, b"", b"", False, f"d/.part-{'0' * 16}"),
     ):
-        assert not judged(*right), f"{right} is refused"
+        assert not is_end_refused(command, *right), f"{right} is refused"
 
 
 def two_commands_that_end_as_in_no_order_are_refused(room):
