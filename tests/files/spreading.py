@@ -89,6 +89,17 @@ def a_thousand_batches_are_spread_evenly(room):
             os.remove(room.path(out))
 
 
+def files_have_equal_bytes_and_not_equal_numbers_of_batches(room):
+    """Of eight batches of one row and four long ones after them each of four files has a long one."""
+    loaded(room, "t", [1] * 8 + [9000] * 4)
+    whole = os.path.getsize(room.path("t"))
+    outs = ["a", "b", "c", "d"]
+    runs = is_spread(room, "t", outs, 12)
+    sizes = [os.path.getsize(room.path(out)) for out in outs]
+    # The head of a file, and a batch of one row, have less than 100 bytes.
+    assert [len(run) for run in runs] == [9, 1, 1, 1] and max(sizes) <= whole / 4 + 1_000, f"the files have {sizes} of {whole} bytes, and {runs}"
+
+
 def deletions_go_with_their_batches_and_strays_to_the_first(room):
     # Rows that the batch doesn't have, and rows of batches that aren't there: before all others, between them and after them.
     deletions = [("1.3", 5, 9), ("1.4", 100, 200), ("1.1", 65_535, 65_535), ("1.9", 0, 3), ("7.1", 1, 1), ("1.2", 0, 0)]
@@ -224,6 +235,7 @@ def an_out_whose_folder_can_not_be_synced_is_told_and_is_there(room):
 TESTS = [
     a_spread_file_is_that_file_when_it_is_merged,
     a_thousand_batches_are_spread_evenly,
+    files_have_equal_bytes_and_not_equal_numbers_of_batches,
     deletions_go_with_their_batches_and_strays_to_the_first,
     folders_are_spread_and_made,
     what_is_there_is_not_replaced,
