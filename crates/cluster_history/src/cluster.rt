@@ -28,7 +28,8 @@ pub const REPLICA_LIMIT: usize = 64;
 const MESSAGE_LIMIT: usize = 65_536;
 
 /// A table at replicas and the messages between them, both numbered from 1. Contracts see it as the schema, the list of replicas
-/// and the list of what the messages bring, and in addition the segments of the batches of both, with their codings.
+/// and the list of what the messages bring, and in addition the segments of the batches of both, with their codings. The key of the
+/// hashes by which queries find groups does not matter to them.
 ///
 /// A step that is refused leaves the cluster as it was, codings included.
 #[derive(Drop)]
@@ -36,6 +37,7 @@ pub struct Cluster {
     schema: Schema,
     stores: Vec<Store>,
     messages: Vec<Message>,
+    hash_key: HashKey,
 }
 
 impl Model for Cluster {
@@ -49,7 +51,8 @@ impl Model for Cluster {
 }
 
 impl Cluster {
-    /// New replicas of a table, from 1 to 64 of them; replica i has own origin i. `Memory` is the only refusal.
+    /// New replicas of a table, from 1 to 64 of them; replica i has own origin i. Queries go by the fixed key. `Memory` is the only
+    /// refusal.
     #[tactic(auto, unfolding(crate::specs::Cluster::new_cluster))]
     pub fn new(alloc: Global, schema: &Schema, replicas: usize) -> Result<Cluster, Refusal>
         requires some { 1 ≤ replicas }
@@ -63,7 +66,20 @@ impl Cluster {
             schema,
             stores,
             messages: Vec::new(alloc),
+            hash_key: HashKey::fixed(),
         })
+    }
+
+    /// The same cluster, whose queries find groups by hashes of a key.
+    pub fn with_hash_key(self, hash_key: HashKey) -> Cluster
+        ensures { result ≡ self }
+    {
+        Cluster {
+            schema: self.schema,
+            stores: self.stores,
+            messages: self.messages,
+            hash_key,
+        }
     }
 
     /// The table's schema.
@@ -271,7 +287,7 @@ impl Cluster {
         ensures { ActsOn self.now (Step.Query replica sql.now) result self.now }
     {
         let place = self.place(replica)?;
-        let answer = ask(alloc, &self.stores[place], HashKey::fixed(), sql)?;
+        let answer = ask(alloc, &self.stores[place], self.hash_key, sql)?;
         Ok(Reply::Answered(answer))
     }
 

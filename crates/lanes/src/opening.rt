@@ -50,7 +50,7 @@ pub fn opened_source<'r, R: Host>(
 
 /// The key of the hashes by which the queries of this process find groups, drawn at random. It is the fixed one if the system gives no
 /// random bytes.
-fn drawn_hash_key<R: RandomSource>(rt: &R) -> HashKey {
+pub fn drawn_hash_key<R: RandomSource>(rt: &R) -> HashKey {
     let mut first = [0; 8];
     let mut second = [0; 8];
     if rt.fill_bytes(&mut first).is_err() || rt.fill_bytes(&mut second).is_err() {

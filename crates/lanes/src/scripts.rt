@@ -1,7 +1,8 @@
 //! Scripts.
 
+use crate::opening::drawn_hash_key;
 use command_line::{Run, Source};
-use lanes_main::{script, script_with_notes};
+use lanes_main::script_with_notes;
 use program_failures::{Failure, unread};
 use program_inputs::{Host, Progress, Watched, source_of};
 use refusal_sentences::CommandRefusal;
@@ -25,12 +26,19 @@ pub fn run<R: Host, N: Write>(
     if is_typed && source == Source::Input {
         let _ = notes.write_all(WAITING.as_bytes());
     }
+    let hash_key = drawn_hash_key(rt);
     let mut reader = source_of(rt, progress, source);
     let mut writer = Counted::new(Watched::new(io::writer(rt)));
     let outcome = if asked.is_explained {
-        script_with_notes(rt.alloc(), &mut reader, &mut writer, notes)
+        script_with_notes(rt.alloc(), hash_key, &mut reader, &mut writer, notes)
     } else {
-        script(rt.alloc(), &mut reader, &mut writer)
+        script_with_notes(
+            rt.alloc(),
+            hash_key,
+            &mut reader,
+            &mut writer,
+            &mut io::sink(),
+        )
     };
     match writer.into_inner().ended(outcome) {
         Ok(()) => Ok(()),

@@ -7,6 +7,7 @@ ghost use Rattle.lanes_main.specs.Script.{parts_in};
 ghost use Rattle.lanes_main.specs.Told.{Sofar, IsStopped, EndsScript, GoesOn, EndsEarly, StaysTold};
 
 use crate::session::Session;
+use query_eval::HashKey;
 use std::alloc::Global;
 use std::io::{self, Read, Write};
 use table_model::{Counted, READ_CHUNK, READ_LIMIT, Refusal};
@@ -48,6 +49,7 @@ fn round<R: Read, W: Write, N: Write>(
 /// Reads to the end of the input; what is left is a part of a line without a line feed.
 fn rounds<R: Read, W: Write, N: Write>(
     alloc: Global,
+    hash_key: HashKey,
     reader: &mut Counted<R>,
     writer: &mut Counted<W>,
     notes: &mut N,
@@ -60,7 +62,7 @@ fn rounds<R: Read, W: Write, N: Write>(
     ensures whole { OnOk result (IsReadAndWritten R.remaining reader.old reader.new writer.old writer.new) }
     ensures stopped { IfErr result (IsStopped R.remaining W.contents reader.old reader.new writer.old writer.new) }
 {
-    let mut session = Session::new(alloc);
+    let mut session = Session::new(alloc, hash_key);
     let mut total: u64 = 0;
     for _turn in 0..ROUNDS {
         let count = round(alloc, reader, writer, notes, &mut session, buffer)?;
@@ -75,7 +77,7 @@ fn rounds<R: Read, W: Write, N: Write>(
     Err(Refusal::ReadFault)
 }
 
-/// Reads a script to its end, and writes the reply to each line that isn't empty.
+/// Reads a script to its end, and writes the reply to each line that isn't empty. Its queries go by the fixed key of hashes.
 ///
 /// `Memory`, `ReadFault` and `WriteFault` end it with that refusal. After `ReadFault` the replies to all lines that were read
 /// whole are written; after each of the three, what was written is a beginning of the script's text. `ReadFault` is answered only if
@@ -88,13 +90,16 @@ pub fn script<R: Read, W: Write>(
 ) -> Result<(), Refusal>
     ensures { EndsScript R.remaining W.contents reader.old reader.new writer.old writer.new result }
 {
-    script_with_notes(alloc, reader, writer, &mut io::sink())
+    let hash_key = HashKey::fixed();
+    script_with_notes(alloc, hash_key, reader, writer, &mut io::sink())
 }
 
-/// As [`script`], and in addition writes a note on each refused line to a third writer: the line's number, counted from 1, its
-/// reply, and what that means, or for `BadLine` what was expected there. What that writer doesn't take is dropped.
+/// As [`script`], but its queries find groups by hashes of this key, and in addition a note on each refused line is written to a third
+/// writer: the line's number, counted from 1, its reply, and what that means, or for `BadLine` what was expected there. What that
+/// writer doesn't take is dropped.
 pub fn script_with_notes<R: Read, W: Write, N: Write>(
     alloc: Global,
+    hash_key: HashKey,
     reader: &mut Counted<R>,
     writer: &mut Counted<W>,
     notes: &mut N,
@@ -102,7 +107,14 @@ pub fn script_with_notes<R: Read, W: Write, N: Write>(
     ensures { EndsScript R.remaining W.contents reader.old reader.new writer.old writer.new result }
 {
     let mut buffer = vec![in alloc; 0u8; READ_CHUNK]?;
-    let mut session = rounds(alloc, reader, writer, notes, buffer.as_mut_slice())?;
+    let mut session = rounds(
+        alloc,
+        hash_key,
+        reader,
+        writer,
+        notes,
+        buffer.as_mut_slice(),
+    )?;
     let mut last = Vec::new(alloc);
     session.finish(alloc, &mut last)?;
     writer.write_whole(last.as_slice())?;

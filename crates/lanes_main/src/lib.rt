@@ -17,5 +17,6 @@ pub use file_check::check_file;
 pub use file_queries::query_file;
 pub use interpreter::{script, script_with_notes};
 pub use laws::{file_history_laws, first_answers_stay, script_laws};
+pub use query_eval::HashKey;
 pub use reply_format::reply_text;
 pub use script_lines::{Command, TableCommand, parse_line, rows_are_read_as_spelled};

@@ -12,6 +12,7 @@ use crate::notes::Notes;
 use crate::reply_format::write_reply;
 use cluster_history::{Cluster, Reply, Step};
 use csv_rows::LINE_LIMIT;
+use query_eval::HashKey;
 use replica_reports::LinePart;
 use script_lines::{Command, TableCommand, parse_line};
 use std::alloc::Global;
@@ -19,9 +20,10 @@ use std::io::Write;
 use table_model::{Refusal, Schema};
 
 /// What a script has made so far: the cluster, once there is a table; the part of a line that was read last; and the notes on
-/// refused lines that weren't written yet.
+/// refused lines that weren't written yet. Its key is that of the hashes by which queries find groups.
 #[derive(Drop)]
 pub struct Session {
+    hash_key: HashKey,
     cluster: Option<Cluster>,
     line: LinePart,
     notes: Notes,
@@ -29,11 +31,12 @@ pub struct Session {
 
 impl Session {
     /// The session of a script of which nothing was read.
-    pub fn new(alloc: Global) -> Session
+    pub fn new(alloc: Global, hash_key: HashKey) -> Session
         ensures cluster { result.cluster ≡ None }
         ensures line { result.line ≡ [] }
     {
         Session {
+            hash_key,
             cluster: None,
             line: LinePart::new(alloc),
             notes: Notes::new(alloc),
@@ -64,7 +67,14 @@ impl Session {
     {
         self.line.grow(piece)?;
         let line = self.line.as_slice();
-        answer_line(alloc, &mut self.cluster, &mut self.notes, out, line)?;
+        answer_line(
+            alloc,
+            self.hash_key,
+            &mut self.cluster,
+            &mut self.notes,
+            out,
+            line,
+        )?;
         self.line.clear();
         Ok(())
     }
@@ -75,7 +85,14 @@ impl Session {
         ensures memory { IfErr result (λ e. e ≡ Refusal.Memory) }
     {
         let line = self.line.as_slice();
-        answer_line(alloc, &mut self.cluster, &mut self.notes, out, line)?;
+        answer_line(
+            alloc,
+            self.hash_key,
+            &mut self.cluster,
+            &mut self.notes,
+            out,
+            line,
+        )?;
         Ok(())
     }
 
@@ -114,14 +131,18 @@ fn command<'a>(alloc: Global, line: &'a [u8]) -> Result<Option<Command<'a>>, Ref
 }
 
 /// The reply to a line that makes a table, and the cluster that it made.
-fn found(alloc: Global, table: &TableCommand<'_>) -> Result<(Reply, Option<Cluster>), Refusal>
+fn found(
+    alloc: Global,
+    hash_key: HashKey,
+    table: &TableCommand<'_>,
+) -> Result<(Reply, Option<Cluster>), Refusal>
     ensures ok { IfOk result (λ made. founded table.now (schema_of table.now.table table.now.columns) ≡ (made.0, parts_in made.1)) }
     ensures memory { IfErr result (λ e. e ≡ Refusal.Memory) }
 {
     match Schema::new(alloc, table.table(), table.columns()) {
         Ok(schema) => {
             let cluster = Cluster::new(alloc, &schema, table.replicas())?;
-            Ok((Reply::Done, Some(cluster)))
+            Ok((Reply::Done, Some(cluster.with_hash_key(hash_key))))
         }
         Err(refusal) => {
             let reply = unless_memory(refusal)?;
@@ -131,12 +152,16 @@ fn found(alloc: Global, table: &TableCommand<'_>) -> Result<(Reply, Option<Clust
 }
 
 /// The reply to a line while there is no table, and the cluster that it made.
-fn first_reply(alloc: Global, line: &[u8]) -> Result<(Reply, Option<Cluster>), Refusal>
+fn first_reply(
+    alloc: Global,
+    hash_key: HashKey,
+    line: &[u8],
+) -> Result<(Reply, Option<Cluster>), Refusal>
     ensures ok { IfOk result (λ made. first_answer (command_of line.now) ≡ (made.0, parts_in made.1)) }
     ensures memory { IfErr result (λ e. e ≡ Refusal.Memory) }
 {
     match command(alloc, line)? {
-        Some(Command::Table(table)) => found(alloc, &table),
+        Some(Command::Table(table)) => found(alloc, hash_key, &table),
         Some(Command::Act(_)) => Ok((Reply::Refused(Refusal::BadLine), None)),
         None => Ok((Reply::Refused(Refusal::BadLine), None)),
     }
@@ -167,7 +192,12 @@ fn later_reply(alloc: Global, cluster: &mut Cluster, line: &[u8]) -> Result<Repl
 
 /// The reply to a line that isn't empty.
 #[tactic(auto, unfolding(crate::specs::Script::line_answer))]
-fn line_reply(alloc: Global, cluster: &mut Option<Cluster>, line: &[u8]) -> Result<Reply, Refusal>
+fn line_reply(
+    alloc: Global,
+    hash_key: HashKey,
+    cluster: &mut Option<Cluster>,
+    line: &[u8],
+) -> Result<Reply, Refusal>
     ensures ok { IfOk result (λ reply. line_answer (parts_in cluster.old) line.now ≡ (reply, parts_in cluster.new)) }
     ensures memory { IfErr result (λ e. e ≡ Refusal.Memory) }
 {
@@ -177,7 +207,7 @@ fn line_reply(alloc: Global, cluster: &mut Option<Cluster>, line: &[u8]) -> Resu
     match cluster {
         Some(open) => later_reply(alloc, open, line),
         None => {
-            let (reply, made) = first_reply(alloc, line)?;
+            let (reply, made) = first_reply(alloc, hash_key, line)?;
             *cluster = made;
             Ok(reply)
         }
@@ -188,6 +218,7 @@ fn line_reply(alloc: Global, cluster: &mut Option<Cluster>, line: &[u8]) -> Resu
 /// reply.
 fn answer_line(
     alloc: Global,
+    hash_key: HashKey,
     cluster: &mut Option<Cluster>,
     notes: &mut Notes,
     out: &mut Vec<u8>,
@@ -201,7 +232,7 @@ fn answer_line(
     if line.is_empty() {
         return Ok(());
     }
-    let reply = line_reply(alloc, cluster, line)?;
+    let reply = line_reply(alloc, hash_key, cluster, line)?;
     write_reply(alloc, out, &reply)?;
     if let Reply::Refused(refusal) = &reply {
         notes.refused(alloc, line, table_of(cluster.as_ref()), *refusal)?;
