@@ -26,6 +26,14 @@ pub enum Wanted<'a> {
 }
 
 impl<'a> Wanted<'a> {
+    /// As many as a list has words, if there is one, and else as many as a table has columns.
+    pub fn of(schema: &'a Schema, words: Option<&'a str>) -> Wanted<'a> {
+        match words {
+            None => Wanted::Columns(schema),
+            Some(words) => Wanted::Words(words),
+        }
+    }
+
     /// How many they are.
     fn count(self) -> usize {
         match self {

@@ -6,7 +6,7 @@ use crate::file_kind::{of_no_csv, of_no_file};
 use crate::meaning::meaning_of;
 use crate::quoted::{Printable, Quoted};
 use crate::reason::{unread, unwritten};
-use crate::table_fault::TableFault;
+use crate::table_fault::{TableFault, fault_of_table};
 use crate::tables::{Names, Table};
 use crate::text_fault::Text;
 use query_parser::Expected;
@@ -349,6 +349,21 @@ fn write_fault_of_csv<W: fmt::Write>(
 }
 
 impl<'a> Knowledge<'a> {
+    /// What is known of a table that is to be made, of this name and these columns.
+    pub fn of_table(table: &'a str, columns: &[(&'a str, ColType)]) -> Knowledge<'a> {
+        match fault_of_table(table, columns) {
+            Some(fault) => Knowledge::NoTable(fault),
+            None => Knowledge::Nothing,
+        }
+    }
+
+    /// What is known of the name that begins at a byte of a list of columns, which has this character between each two.
+    pub fn of_name(list: &'a str, separator: char, at: u64, schema: &'a Schema) -> Knowledge<'a> {
+        let rest = usize::try_from(at).ok().and_then(|at| list.get(at..));
+        let name = rest.unwrap_or(list).split(separator).next().unwrap_or(list);
+        Knowledge::Name { name, schema }
+    }
+
     /// The first bytes of the input, if what is refused is there.
     fn beginning(&self, is_first: bool) -> Option<&'a [u8]> {
         match *self {

@@ -8,6 +8,9 @@ use query_parser::Expected;
 use std::fmt;
 use table_model::{Refusal, Schema, same_word};
 
+/// What is said of a text that isn't UTF-8.
+pub const NOT_UTF8: &str = "this is not UTF-8";
+
 /// A text that is refused, and what else is known.
 #[derive(Clone, Copy)]
 pub struct Text<'a> {
