@@ -5,7 +5,7 @@ use crate::typed::{Typed, WELCOME};
 use command_line::Format;
 use program_failures::Failure;
 use program_inputs::{Cause, Host, Progress, Watched};
-use refusal_sentences::{CommandRefusal, Knowledge, Text};
+use refusal_sentences::{CommandRefusal, Knowledge, NOT_UTF8, Text};
 use replica_reports::{Listener, answer_all, answer_lines};
 use std::alloc::Global;
 use std::fmt;
@@ -169,8 +169,12 @@ fn not_utf8(alloc: Global, number: u64, error: &Utf8Error) -> Failure {
     let Ok(place) = Place::Line(number).to_string(alloc) else {
         return Failure::from(refusal);
     };
-    let words = "this is not UTF-8";
-    Failure::advised(alloc, CommandRefusal::from(refusal), place.as_str(), words)
+    Failure::advised(
+        alloc,
+        CommandRefusal::from(refusal),
+        place.as_str(),
+        NOT_UTF8,
+    )
 }
 
 /// A refusal of a query, which is pointed at.

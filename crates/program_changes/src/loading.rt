@@ -4,16 +4,13 @@ use command_line::{CsvForm, Source};
 use csv_rows::{CsvError, CsvReader, Dialect, Order, WordError};
 use program_failures::{Failure, unread};
 use program_inputs::{Host, Progress, source_of};
-use refusal_sentences::{CommandRefusal, Fields, Knowledge, Wanted, is_heading};
+use refusal_sentences::{CommandRefusal, Knowledge, RefusedLine, Wanted};
 use replica_changes::{Load, read_csv};
 use std::alloc::Global;
 use std::fs::Files;
 use std::io::Read;
 use std::random::RandomSource;
 use table_model::{Counted, Refusal, Schema};
-
-/// What is said of a last line without its end.
-const NO_END: &str = "the last line has no line end: it may be cut off";
 
 /// What is said if no name can be drawn.
 const NO_RANDOM: &str =
@@ -117,14 +114,6 @@ fn no_column(alloc: Global, schema: &Schema, words: &str, place: u64) -> Failure
     Failure::of_name(alloc, "--columns", words, at, schema)
 }
 
-/// How many fields a line should have.
-fn wanted_fields<'a>(schema: &'a Schema, form: CsvForm<'a>) -> Wanted<'a> {
-    match form.columns {
-        None => Wanted::Columns(schema),
-        Some(words) => Wanted::Words(words),
-    }
-}
-
 /// A fault of comma-separated values.
 fn fault_of_csv(
     alloc: Global,
@@ -143,28 +132,14 @@ fn known_of_field<'a>(
     is_first: bool,
     column: u64,
 ) -> Knowledge<'a> {
-    if column == 0 && csv.is_cut() {
-        return Knowledge::Advice(NO_END);
-    }
-    if column == 0 {
-        return Knowledge::Fields(Fields::new(
-            csv.line(),
-            form.separator,
-            wanted_fields(schema, form),
-            form.has_header && is_first,
-        ));
-    }
-    let text = csv.faulty_field(column);
-    match csv.column_of(column) {
-        Some(index) if index < schema.columns() => {
-            let found = schema.column(index);
-            Knowledge::Field {
-                column: found.name(),
-                column_type: found.column_type(),
-                text,
-                is_heading: is_heading(csv.line(), form.separator, schema),
-            }
-        }
-        _ => Knowledge::Heading { text, schema },
-    }
+    let line = RefusedLine {
+        line: csv.line(),
+        is_cut: csv.is_cut(),
+        separator: form.separator,
+        wanted: Wanted::of(schema, form.columns),
+        is_header: form.has_header && is_first,
+        field: csv.faulty_field(column),
+        column: csv.column_of(column),
+    };
+    line.known(column, schema)
 }

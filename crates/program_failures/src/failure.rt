@@ -3,7 +3,7 @@
 use command_line::{Fault, Source};
 use program_inputs::{Cause, is_folder};
 use refusal_sentences::{
-    CommandRefusal, Knowledge, Pointer, Printable, Sentence, Text, fault_of_table, sentence_of_text,
+    CommandRefusal, Knowledge, Pointer, Printable, Sentence, Text, sentence_of_text,
 };
 use std::alloc::{AllocError, AllocFailed, Global};
 use std::fs::{self, Files};
@@ -243,19 +243,13 @@ impl Failure {
     /// A refusal of a table that is to be made, of this name and these columns.
     pub fn of_names(alloc: Global, table: &str, columns: &[(&str, ColType)]) -> Failure {
         let refusal = CommandRefusal::from(Refusal::BadSchema);
-        let knowledge = match fault_of_table(table, columns) {
-            Some(fault) => Knowledge::NoTable(fault),
-            None => Knowledge::Nothing,
-        };
-        Failure::said_of(alloc, refusal, "", knowledge)
+        Failure::said_of(alloc, refusal, "", Knowledge::of_table(table, columns))
     }
 
     /// A refusal of the name that begins at a byte of a list of columns, which was given with an option.
     pub fn of_name(alloc: Global, option: &str, list: &str, at: u64, schema: &Schema) -> Failure {
-        let rest = usize::try_from(at).ok().and_then(|at| list.get(at..));
-        let name = rest.unwrap_or(list).split(',').next().unwrap_or(list);
         let refusal = Refusal::NoSuchColumn(at);
-        let knowledge = Knowledge::Name { name, schema };
+        let knowledge = Knowledge::of_name(list, ',', at, schema);
         Failure {
             pointer: pointer_at(alloc, list, refusal),
             ..Failure::said_of(alloc, CommandRefusal::from(refusal), option, knowledge)

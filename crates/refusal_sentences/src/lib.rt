@@ -21,7 +21,7 @@ mod text_fault;
 mod tokens;
 
 pub use command_refusal::CommandRefusal;
-pub use csv_fault::{Fields, Wanted, is_heading};
+pub use csv_fault::Wanted;
 pub use file_kind::KIND_BYTES;
 pub use pointer::Pointer;
 pub use quoted::{Printable, Quoted};
