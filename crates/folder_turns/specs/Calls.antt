@@ -38,6 +38,36 @@ wanted_of wanted.ListNames = Began
 wanted_of wanted.Unlock = Unlocked
 wanted_of (wanted.ReadFile name) = Read name.now None
 
+-- the number of a call that is asked for
+abbrev pub kind_of : Call → ℕ
+kind_of (Made name ok) = 1
+kind_of (Wrote bytes ok) = 2
+kind_of (Synced ok) = 3
+kind_of (Linked from to ok) = 4
+kind_of (Removed name ok) = 5
+kind_of (Settled ok) = 6
+kind_of (Locked Exclusive ok) = 7
+kind_of (Locked Shared ok) = 8
+kind_of Began = 9
+kind_of (Read name ok) = 10
+kind_of Unlocked = 11
+kind_of (Listed names) = 12
+kind_of (Looked name ok) = 13
+
+-- its first name, or its bytes
+abbrev pub first_of : Call → List ℕ
+first_of (Made name ok) = name
+first_of (Wrote bytes ok) = bytes
+first_of (Linked from to ok) = from
+first_of (Removed name ok) = name
+first_of (Read name ok) = name
+first_of call = []
+
+-- its second name
+abbrev pub second_of : Call → List ℕ
+second_of (Linked from to ok) = to
+second_of call = []
+
 -- whether the answer is that the call was done
 abbrev pub is_done : Answer → Bool
 is_done answers.Done = true

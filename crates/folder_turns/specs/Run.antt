@@ -4,6 +4,7 @@ use Rattle.folder_model.specs.Call.{Call}
 use Rattle.folder_protocol.specs.Note.{calls_of}
 use Rattle.folder_turns.specs.Calls.{call_asked, answered, calls_after}
 use Rattle.folder_turns.specs.declared.request.Answer.TheVariants.{Failed}
+use Rattle.folder_turns.specs.declared.request.Request.{Request}
 use Rattle.folder_turns.specs.declared.request.Told.{Told}
 use Rattle.folder_turns.specs.declared.replay.Fault.{Fault}
 use Rattle.folder_turns.specs.declared.replay.Why.{Why}
@@ -24,3 +25,8 @@ run_history whole told before at (Some stop) = calls_of stop.since.noted ++ stop
 abbrev pub StopsFor : Option Stop → Fault → Type 0
 StopsFor None fault = ⊥
 StopsFor (Some stop) fault = stop.why ≡ Fails fault
+
+-- a run has stopped at this call, which has no answer yet
+abbrev pub AsksFor : Option Stop → Request → Type 0
+AsksFor None request = ⊥
+AsksFor (Some stop) request = stop.why ≡ Asks request

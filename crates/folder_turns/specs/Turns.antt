@@ -1,12 +1,15 @@
 -- The state of a turn, and what is said of it.
-use Rattle.std.specs.Prelude.{◌≡◌, refl, ◌==◌, ◌++◌, if◌then◌else◌, ℕ, List, [], map, Option, Some, option_map, MatchOption, Result}
+use Rattle.std.specs.Prelude.{◌≡◌, refl, ◌==◌, ◌++◌, if◌then◌else◌, ℕ, true, List, [], map, Option, Some, option_map, MatchOption, Result}
 use Rattle.std.specs.String.{string_bytes}
 use Rattle.std.specs.Coded.{Coded, code_by, coded_ℕ, coded_list, coded×, coded_option}
-use Rattle.folder_model.specs.Call.{Call}
+use Rattle.std.specs.declared.io.Error.{Error}
+use Rattle.folder_model.specs.Call.{Call, can_settle}
 use Rattle.folder_model.specs.Parts.{Parts}
 use Rattle.folder_model.specs.Turn.{InTurn, AllInTurn}
+use Rattle.folder_turns.specs.Asking.{RunSays}
 use Rattle.folder_turns.specs.Calls.{call_asked, calls_after}
 use Rattle.folder_turns.specs.Coding.{coded_call}
+use Rattle.folder_turns.specs.Straying.{HasStrayed}
 use Rattle.folder_turns.specs.Orders.{Matter, MayTake, EndSays, matter_of}
 use Rattle.folder_turns.specs.declared.order.End.{End}
 use Rattle.folder_turns.specs.declared.order.Task.{Task}
@@ -50,6 +53,13 @@ AsksInTurn before state =
 -- An end says of the calls told what the task says.
 abbrev pub EndsSaying : {E : Type 0} → List Call → State → Result End E → Type 0
 EndsSaying before state end = (parts : Parts) → MayTake state.task state.matter parts before → EndSays state.task state.matter end parts before (state.calls ++ before)
+
+-- A run of the order, after these calls, strays from those that were told. What it comes to says of its calls what the task says.
+abbrev pub IsAstray : List Call → State → Type 0
+IsAstray before state =
+    can_settle before ≡ true
+    → HasStrayed {T = Result End Error} (RunSays (λ parts. MayTake state.task state.matter parts before) (λ end parts calls. EndSays state.task state.matter end parts before calls) before)
+    state.matter.bytes before (state.calls ++ before)
 
 -- Another call is asked for, or none; the rest is as it was.
 abbrev pub IsSame : State → State → Type 0

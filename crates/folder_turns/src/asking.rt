@@ -1,10 +1,12 @@
 //! The next call that is asked for.
-ghost use Rattle.std.specs.Prelude.{◌≡◌, ◌++◌, ◌∷◌, [], List, true, IfOk};
+ghost use Rattle.std.specs.Prelude.{◌≡◌, ◌++◌, List, true, IfOk};
 ghost use Rattle.folder_model.specs.Call.{Call, can_settle};
 ghost use Rattle.folder_model.specs.Parts.{Parts};
 ghost use Rattle.folder_model.specs.Turn.{InTurn, AllInTurn};
+ghost use Rattle.folder_turns.specs.Asking.{AsksAfter, GoesOnWhatever, RunSays};
 ghost use Rattle.folder_turns.specs.Calls.{call_asked, answered, calls_after};
 ghost use Rattle.folder_turns.specs.Steps.{OnAsks, OnEnds};
+ghost use Rattle.folder_turns.specs.Straying.{HasStrayed, IfStrayed};
 ghost use Rattle.folder_turns.specs.declared.request.Answer.{Answer};
 
 use crate::program::Program;
@@ -25,11 +27,13 @@ pub fn next<P: Program>(
 ) -> Result<Step<P::Outcome>, Fault>
     ghost before: { List Call }
     // The call that is asked for is in turn after those told, if no sync of the folder has failed before.
-    ensures in_turn { IfOk result (λ step. OnAsks step (λ request. (parts : Parts) → can_settle before ≡ true → AllInTurn parts before → P.may_run program.now parts before → InTurn parts (calls_after whole.now told.now before) (call_asked whole.now request))) }
+    ensures in_turn { IfOk result (λ step. OnAsks step (AsksAfter (λ parts. P.may_run program.now parts before) whole.now before (calls_after whole.now told.now before))) }
     // Told with whatever answer, all calls are in turn, if no sync of the folder has failed by then.
-    ensures whatever { IfOk result (λ step. OnAsks step (λ request. (parts : Parts) → can_settle (calls_after whole.now told.now before) ≡ true → AllInTurn parts before → P.may_run program.now parts before → (answer : Answer) → AllInTurn parts (calls_after whole.now (told.now ++ record { request = request; answer = answer } ∷ []) before))) }
+    ensures whatever { IfOk result (λ step. OnAsks step (GoesOnWhatever (λ parts. P.may_run program.now parts before) whole.now before told.now)) }
     // What it has come to says of the calls told what the program says.
     ensures ends { IfOk result (λ step. OnEnds step (λ outcome. (parts : Parts) → can_settle before ≡ true → P.may_run program.now parts before → P.says program.now outcome parts before (calls_after whole.now told.now before))) }
+    // It strays only if there is such a run: it ended before it had made all calls that were told, or it made another one.
+    ensures strays { can_settle before ≡ true → IfStrayed result (HasStrayed (RunSays (λ parts. P.may_run program.now parts before) (λ outcome parts calls. P.says program.now outcome parts before calls) before) whole.now before (calls_after whole.now told.now before)) }
 {
     run::<P, Brand>(alloc, program, whole, told)
 }
@@ -47,6 +51,7 @@ fn run<P: Program, S: Script>(
     ensures in_turn { IfOk result (λ step. OnAsks step (λ request. (parts : Parts) → AllInTurn parts S.before → P.may_run program.now parts S.before → InTurn parts S.calls (call_asked S.whole request))) }
     ensures whatever { IfOk result (λ step. OnAsks step (λ request. (parts : Parts) → can_settle S.calls ≡ true → AllInTurn parts S.before → P.may_run program.now parts S.before → (answer : Answer) → AllInTurn parts (answered (call_asked S.whole request) answer ++ S.calls))) }
     ensures ends { IfOk result (λ step. OnEnds step (λ outcome. (parts : Parts) → P.may_run program.now parts S.before → P.says program.now outcome parts S.before S.calls)) }
+    ensures strays { IfStrayed result (HasStrayed (RunSays (λ parts. P.may_run program.now parts S.before) (λ outcome parts calls. P.says program.now outcome parts S.before calls) S.before) S.whole S.before S.calls) }
 {
     let mut folder = Replay::<S>::new(alloc, whole, told);
     let outcome = program.run(alloc, &mut folder);

@@ -4,6 +4,10 @@ ghost use Rattle.std.specs.Coded.{Coded-set, coded_list};
 ghost use Rattle.folder_turns.specs.Coding.{coded_call};
 ghost use Rattle.folder_model.specs.Call.{can_settle};
 ghost use Rattle.folder_turns.specs.Calls.{calls_after};
+ghost use Rattle.folder_turns.specs.Run.{run_history, AsksFor, StopsFor};
+ghost use Rattle.folder_turns.specs.Straying.{TurnsAway};
+ghost use Rattle.folder_turns.specs.declared.replay.Fault.TheVariants.{Strayed};
+ghost use Rattle.folder_turns.specs.declared.request.Request.{Request};
 
 use crate::answering::{done, error_of, linked, listed, read, written};
 use crate::request::{Answer, Request, Told};
@@ -51,12 +55,16 @@ pub struct Replay<'a, S: Script> {
     ghost whole_is: { whole.now ≡ S.whole },
     ghost settles: { can_settle S.before ≡ true },
     ghost told_is: { calls_after whole.now told.now S.before ≡ S.calls } by { Coded-set (coded_list coded_call) (calls_after whole.now told.now S.before) S.calls },
+    // Only what comes after all that was told is asked for.
+    ghost asks: { (request : Request) → AsksFor stop request → length told.now ≤ at },
+    // It has strayed only at a call that isn't the one that was told, or that can't be asked for.
+    ghost strays: { StopsFor stop Strayed → ∥ TurnsAway S.whole told.now S.before at (run_history S.whole told.now S.before at stop) ∥₁ },
 }
 
 impl<'a, S: Script> Replay<'a, S> {
-    ghost use Rattle.folder_turns.specs.Run.{run_history, StopsFor};
     ghost use Rattle.folder_turns.specs.Calls.{call_asked, wanted_of, answered};
     ghost use Rattle.folder_turns.specs.Steps.{OnAsks, OnEnds};
+    ghost use Rattle.folder_turns.specs.Straying.{EndsEarly, IfStrayed, IsNoRequest, IsOther};
     ghost use Rattle.folder_turns.specs.declared.request.Answer.TheVariants.{Failed};
     ghost use Rattle.folder_model.specs.Call.{Call};
 
@@ -82,19 +90,39 @@ impl<'a, S: Script> Replay<'a, S> {
         ensures within { IfSome result (λ answer. self.now.at < length self.now.told.now) }
         ensures going { IfSome result (λ answer. self.now.stop ≡ None) }
         ensures next { IfSome result (λ answer. run_history S.whole self.now.told.now S.before (self.now.at + 1) None ≡ answered (wanted_of wanted.entry) answer.now ++ run_history S.whole self.now.told.now S.before self.now.at None) }
+        // If it doesn't, another one was told, if any.
+        ensures other { self.now.stop ≡ None → result ≡ None → self.now.at < length self.now.told.now → IsOther S.whole self.now.told.now S.before self.now.at (wanted_of wanted.entry) }
     {
         if self.stop.is_some() {
             return None;
         }
         match self.told.get(self.at) {
-            Some(told) if wanted.is(&told.request, self.whole) => Some(&told.answer),
-            _ => None,
+            Some(told) => {
+                if wanted.is(&told.request, self.whole) {
+                    Some(&told.answer)
+                } else {
+                    None
+                }
+            }
+            None => None,
         }
+    }
+
+    /// Goes past the next call that was told.
+    fn pass(&mut self)
+        requires going { self.old.stop ≡ None }
+        requires within { self.old.at < length self.old.told.now }
+        ensures { run_history S.whole self.new.told.now S.before self.new.at self.new.stop ≡ run_history S.whole self.old.told.now S.before (self.old.at + 1) None }
+    {
+        self.at += 1;
     }
 
     /// The stop of a run that comes to this call.
     fn stop_at(&self, wanted: Wanted<'_>) -> Stop
-        ensures { run_history S.whole self.now.told.now S.before self.now.at (Some result) ≡ answered (wanted_of wanted.entry) Failed ++ run_history S.whole self.now.told.now S.before self.now.at None }
+        requires other { self.now.at < length self.now.told.now → IsOther S.whole self.now.told.now S.before self.now.at (wanted_of wanted) }
+        ensures history { run_history S.whole self.now.told.now S.before self.now.at (Some result) ≡ answered (wanted_of wanted.entry) Failed ++ run_history S.whole self.now.told.now S.before self.now.at None }
+        ensures asks { (request : Request) → result.why ≡ Why.Asks request → length self.now.told.now ≤ self.now.at }
+        ensures strays { result.why ≡ Why.Fails Fault.Strayed → TurnsAway S.whole self.now.told.now S.before self.now.at (run_history S.whole self.now.told.now S.before self.now.at (Some result)) }
     {
         if self.at < self.told.len() {
             return Stop::failing(Fault::Strayed, wanted);
@@ -110,6 +138,7 @@ impl<'a, S: Script> Replay<'a, S> {
 
     /// Stops at this call, or notes that it failed since.
     fn halt(&mut self, wanted: Wanted<'_>)
+        requires other { self.old.stop ≡ None → self.old.at < length self.old.told.now → IsOther S.whole self.old.told.now S.before self.old.at (wanted_of wanted) }
         ensures { run_history S.whole self.new.told.now S.before self.new.at self.new.stop ≡ answered (wanted_of wanted.entry) Failed ++ run_history S.whole self.old.told.now S.before self.old.at self.old.stop }
     {
         match &mut self.stop {
@@ -126,7 +155,7 @@ impl<'a, S: Script> Replay<'a, S> {
     {
         let answer = self.find(wanted);
         match answer {
-            Some(_) => self.at += 1,
+            Some(_) => self.pass(),
             None => self.halt(wanted),
         }
         answer
@@ -142,23 +171,23 @@ impl<'a, S: Script> Replay<'a, S> {
     /// What the run has come to, or what it asks for.
     pub fn into_step<T: Drop>(self, outcome: T) -> Result<Step<T>, Fault>
         ensures asks { IfOk result (λ step. OnAsks step (λ request. (since : List Call) × (run_history S.whole self.entry.told.now S.before self.entry.at self.entry.stop ≡ since ++ (answered (call_asked S.whole request) Failed ++ S.calls)))) }
-        // It is not known what it asks for only if it has not made all calls that were told, or has stopped for that reason.
-        ensures fails { IfErr result (λ fault. (self.entry.at < length self.entry.told.now) ⊎ StopsFor self.entry.stop fault) }
+        // It has strayed only if it ended before it had made all calls that were told, or has stopped at another one.
+        ensures strays { IfStrayed result (EndsEarly S.whole self.entry.told.now S.before self.entry.at (run_history S.whole self.entry.told.now S.before self.entry.at self.entry.stop) ⊎ StopsFor self.entry.stop Fault.Strayed) }
+        // Else it is not known what it asks for only if it has stopped for that reason.
+        ensures fails { IfErr result (λ fault. (fault ≡ Fault.Strayed) ⊎ StopsFor self.entry.stop fault) }
         ensures ends { IfOk result (λ step. OnEnds step (λ end. (end ≡ outcome) × (run_history S.whole self.entry.told.now S.before self.entry.at self.entry.stop ≡ S.calls))) }
     {
         let Replay { told, at, stop, .. } = self;
-        if at < told.len() {
-            return Err(Fault::Strayed);
-        }
-        match stop {
-            None => Ok(Step::Ends(outcome)),
-            Some(stop) => {
-                let Stop { why, .. } = stop;
-                match why {
-                    Why::Asks(request) => Ok(Step::Asks(request)),
-                    Why::Fails(fault) => Err(fault),
-                }
+        let Some(stop) = stop else {
+            if at < told.len() {
+                return Err(Fault::Strayed);
             }
+            return Ok(Step::Ends(outcome));
+        };
+        let Stop { why, .. } = stop;
+        match why {
+            Why::Asks(request) => Ok(Step::Asks(request)),
+            Why::Fails(fault) => Err(fault),
         }
     }
 }
@@ -190,11 +219,15 @@ impl<'a, S: Script> Folder for Replay<'a, S> {
 
     fn settle(&mut self) -> io::Result<()> {
         match self.find(Wanted::Settle) {
-            Some(answer) if !answer.is_done() || may_settle(self.told, self.at) => {
-                self.at += 1;
+            Some(answer) => {
+                if answer.is_done() && !may_settle(self.told, self.at) {
+                    self.halt(Wanted::Settle);
+                    return Err(error_of(None));
+                }
+                self.pass();
                 done(Some(answer))
             }
-            _ => {
+            None => {
                 self.halt(Wanted::Settle);
                 Err(error_of(None))
             }
@@ -219,11 +252,11 @@ impl<'a, S: Script> Folder for Replay<'a, S> {
         };
         match listed(answer) {
             Ok(Some(names)) => {
-                self.at += 1;
+                self.pass();
                 Ok(names)
             }
             Ok(None) => {
-                self.at += 1;
+                self.pass();
                 Err(error_of(Some(answer)))
             }
             Err(_) => {
@@ -247,11 +280,11 @@ impl<'a, S: Script> Folder for Replay<'a, S> {
         };
         match read(alloc, answer) {
             Ok(Some(found)) => {
-                self.at += 1;
+                self.pass();
                 Ok(found)
             }
             Ok(None) => {
-                self.at += 1;
+                self.pass();
                 Err(error_of(Some(answer)))
             }
             Err(_) => {

@@ -1,6 +1,6 @@
 //! Calls on a folder as they are asked for, and what came of them.
-ghost use Rattle.std.specs.Prelude.{◌≡◌};
-ghost use Rattle.folder_turns.specs.Calls.{is_done};
+ghost use Rattle.std.specs.Prelude.{◌≡◌, ℕ, List, drop};
+ghost use Rattle.folder_turns.specs.Calls.{call_asked, first_of, is_done, kind_of, second_of};
 
 /// A call that is to be made on a folder. Files are named by their names in it.
 #[derive(Debug, Drop)]
@@ -27,6 +27,62 @@ pub enum Request {
     Unlock,
     /// Open the file of this name, if there is one, and read its bytes.
     ReadFile { name: String },
+}
+
+/// The bytes from this position on.
+fn end_of(whole: &[u8], from: usize) -> &[u8]
+    ensures { result.now ≡ drop from whole.now }
+{
+    if from > whole.len() {
+        return &[];
+    }
+    let (_, rest) = whole.split_at(from);
+    rest
+}
+
+impl Request {
+    /// Its number, which no other kind of call has.
+    pub(crate) fn kind(&self) -> u8
+        ensures { (whole : List ℕ) → result ≡ kind_of (call_asked whole self.now) }
+    {
+        match self {
+            Request::Make { .. } => 1,
+            Request::Write { .. } => 2,
+            Request::Sync => 3,
+            Request::Link { .. } => 4,
+            Request::Remove { .. } => 5,
+            Request::Settle => 6,
+            Request::Lock => 7,
+            Request::LockShared => 8,
+            Request::ListNames => 9,
+            Request::ReadFile { .. } => 10,
+            Request::Unlock => 11,
+        }
+    }
+
+    /// Its first name, or what is to be written of these bytes.
+    pub(crate) fn first<'a>(&'a self, whole: &'a [u8]) -> &'a [u8]
+        ensures { result.now ≡ first_of (call_asked whole.now self.now) }
+    {
+        match self {
+            Request::Make { name } => name.as_bytes(),
+            Request::Write { from } => end_of(whole, *from),
+            Request::Link { from, .. } => from.as_bytes(),
+            Request::Remove { name } => name.as_bytes(),
+            Request::ReadFile { name } => name.as_bytes(),
+            _ => &[],
+        }
+    }
+
+    /// Its second name.
+    pub(crate) fn second(&self) -> &[u8]
+        ensures { (whole : List ℕ) → result.now ≡ second_of (call_asked whole self.now) }
+    {
+        match self {
+            Request::Link { to, .. } => to.as_bytes(),
+            _ => &[],
+        }
+    }
 }
 
 /// What came of a call.

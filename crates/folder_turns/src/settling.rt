@@ -1,5 +1,5 @@
 //! Whether the folder may still be synced.
-ghost use Rattle.std.specs.Prelude.{◌≡◌, ℕ, List, true, take};
+ghost use Rattle.std.specs.Prelude.{◌≡◌, ℕ, List, true, false, take};
 ghost use Rattle.folder_model.specs.Call.{Call, can_settle};
 ghost use Rattle.folder_turns.specs.Calls.{calls_after, fails_to_settle};
 
@@ -7,7 +7,8 @@ use crate::request::{Request, Told};
 
 /// Whether none of the first so many calls that were told is a sync of the folder that failed. After one a further sync proves nothing.
 pub fn may_settle(told: &[Told], count: usize) -> bool
-    ensures { result ≡ true → (whole : List ℕ) (before : List Call) → can_settle before ≡ true → can_settle (calls_after whole (take count told.now) before) ≡ true }
+    ensures may { result ≡ true → (whole : List ℕ) (before : List Call) → can_settle before ≡ true → can_settle (calls_after whole (take count told.now) before) ≡ true }
+    ensures not { result ≡ false → (whole : List ℕ) (before : List Call) → can_settle (calls_after whole (take count told.now) before) ≡ false }
 {
     let mut at = 0;
     while at < count {

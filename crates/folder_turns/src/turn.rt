@@ -5,7 +5,8 @@ ghost use Rattle.folder_model.specs.Call.{Call};
 ghost use Rattle.folder_turns.specs.Calls.{answered};
 ghost use Rattle.folder_turns.specs.Orders.{matter_of};
 ghost use Rattle.folder_turns.specs.Steps.{OnAsks, OnEnds};
-ghost use Rattle.folder_turns.specs.Turns.{AsksInTurn, EndsSaying, IsSame, asking, state_of};
+ghost use Rattle.folder_turns.specs.Straying.{IfStrayed};
+ghost use Rattle.folder_turns.specs.Turns.{AsksInTurn, EndsSaying, IsAstray, IsSame, asking, state_of};
 
 use crate::asking::next;
 use crate::order::{End, Order};
@@ -43,6 +44,7 @@ impl Turn {
         ghost before: { List Call }
         ensures in_turn { IfOk result (λ step. OnAsks step (λ request. AsksInTurn before (asking request self.now))) }
         ensures ends { IfOk result (λ step. OnEnds step (λ end. EndsSaying before (state_of self.now) end)) }
+        ensures strays { IfStrayed result (IsAstray before (state_of self.now)) }
     {
         next(
             alloc,
@@ -62,6 +64,8 @@ impl Turn {
         ensures over { IfOk result (λ answer. IfSome answer (λ end. (state_of self.new).asked ≡ None)) }
         // What it has come to says of the calls told what the order says.
         ensures ends { IfOk result (λ answer. MatchOption answer (Unit {0}) (λ end. EndsSaying before (state_of self.new) end)) }
+        // It strays only if a run of the order does: it ended before it had made all calls that were told, or it made another one.
+        ensures strays { IfStrayed result (IsAstray before (state_of self.new)) }
     {
         match self.step(alloc)? {
             Step::Asks(request) => {

@@ -1,8 +1,9 @@
 //! A call that a run makes.
-ghost use Rattle.std.specs.Prelude.{◌≡◌, ◌++◌, ℕ, List, true, drop, IfOk, IfSome};
+ghost use Rattle.std.specs.Prelude.{◌≡◌, ◌++◌, ℕ, List, None, true, false, drop, IfErr, IfOk, IfSome};
 ghost use Rattle.std.specs.String.{string_bytes};
 ghost use Rattle.folder_protocol.specs.Note.{calls_of};
-ghost use Rattle.folder_turns.specs.Calls.{call_asked, wanted_of, answered};
+ghost use Rattle.folder_turns.specs.Calls.{call_asked, wanted_of, answered, kind_of, first_of, second_of};
+ghost use Rattle.folder_turns.specs.Straying.{IfStrayed, IsNoRequest};
 ghost use Rattle.folder_turns.specs.declared.request.Answer.TheVariants.{Failed};
 
 use crate::replay::Fault;
@@ -28,7 +29,8 @@ pub enum Wanted<'b> {
 
 /// The offset at which some bytes begin that are the last of others.
 fn beginning(whole: &[u8], bytes: &[u8]) -> Option<usize>
-    ensures { IfSome result (λ from. drop from whole.now ≡ bytes.now) }
+    ensures some { IfSome result (λ from. drop from whole.now ≡ bytes.now) }
+    ensures none { result ≡ None → (from : ℕ) → drop from whole.now ≡ bytes.now → ⊥ }
 {
     let from = whole.len().checked_sub(bytes.len())?;
     let (_, rest) = whole.split_at(from);
@@ -36,36 +38,68 @@ fn beginning(whole: &[u8], bytes: &[u8]) -> Option<usize>
 }
 
 impl<'b> Wanted<'b> {
+    /// Its number, which no other kind of call has.
+    fn kind(self) -> u8
+        ensures { result ≡ kind_of (wanted_of self.entry) }
+    {
+        match self {
+            Wanted::Make(_) => 1,
+            Wanted::Write(_) => 2,
+            Wanted::Sync => 3,
+            Wanted::Link(_, _) => 4,
+            Wanted::Remove(_) => 5,
+            Wanted::Settle => 6,
+            Wanted::Lock => 7,
+            Wanted::LockShared => 8,
+            Wanted::ListNames => 9,
+            Wanted::ReadFile(_) => 10,
+            Wanted::Unlock => 11,
+        }
+    }
+
+    /// Its first name, or its bytes.
+    fn first(self) -> &'b [u8]
+        ensures { result.now ≡ first_of (wanted_of self.entry) }
+    {
+        match self {
+            Wanted::Make(name) => name.as_bytes(),
+            Wanted::Write(bytes) => bytes,
+            Wanted::Link(from, _) => from.as_bytes(),
+            Wanted::Remove(name) => name.as_bytes(),
+            Wanted::ReadFile(name) => name.as_bytes(),
+            _ => &[],
+        }
+    }
+
+    /// Its second name.
+    fn second(self) -> &'b [u8]
+        ensures { result.now ≡ second_of (wanted_of self.entry) }
+    {
+        match self {
+            Wanted::Link(_, to) => to.as_bytes(),
+            _ => &[],
+        }
+    }
+
     /// Whether it is a call that was asked for.
     pub fn is(self, request: &Request, whole: &[u8]) -> bool
-        ensures { result ≡ true → call_asked whole.now request.now ≡ wanted_of self.entry }
+        ensures same { result ≡ true → call_asked whole.now request.now ≡ wanted_of self.entry }
+        ensures other { result ≡ false → call_asked whole.now request.now ≡ wanted_of self.entry → ⊥ }
     {
-        match (self, request) {
-            (Wanted::Make(name), Request::Make { name: asked }) => asked.as_str() == name,
-            (Wanted::Write(bytes), Request::Write { from }) => beginning(whole, bytes)
-                == Some(*from),
-            (Wanted::Sync, Request::Sync) => true,
-            (
-                Wanted::Link(from, to),
-                Request::Link {
-                    from: first,
-                    to: second,
-                },
-            ) => { first.as_str() == from && second.as_str() == to }
-            (Wanted::Remove(name), Request::Remove { name: asked }) => asked.as_str() == name,
-            (Wanted::Settle, Request::Settle) => true,
-            (Wanted::Lock, Request::Lock) => true,
-            (Wanted::LockShared, Request::LockShared) => true,
-            (Wanted::ListNames, Request::ListNames) => true,
-            (Wanted::Unlock, Request::Unlock) => true,
-            (Wanted::ReadFile(name), Request::ReadFile { name: asked }) => asked.as_str() == name,
-            _ => false,
+        if self.kind() != request.kind() {
+            return false;
         }
+        if self.first() != request.first(whole) {
+            return false;
+        }
+        self.second() == request.second()
     }
 
     /// The call as it is asked for, if these bytes are put.
     pub fn asked(self, alloc: Global, whole: &[u8]) -> Result<Request, Fault>
-        ensures { IfOk result (λ request. call_asked whole.now request ≡ wanted_of self.entry) }
+        ensures asked { IfOk result (λ request. call_asked whole.now request ≡ wanted_of self.entry) }
+        // It strays if no call that can be asked for is this one.
+        ensures strays { IfStrayed result (IsNoRequest whole.now (wanted_of self.entry)) }
     {
         Ok(match self {
             Wanted::Make(name) => Request::Make {
@@ -116,7 +150,8 @@ impl<'b> Wanted<'b> {
 
 /// A name of its own.
 fn owned(alloc: Global, name: &str) -> Result<String, Fault>
-    ensures { IfOk result (λ text. string_bytes text ≡ name.now) }
+    ensures text { IfOk result (λ text. string_bytes text ≡ name.now) }
+    ensures lacks { IfErr result (λ fault. fault ≡ Fault.OutOfMemory) }
 {
     match String::from_str(alloc, name) {
         Ok(text) => Ok(text),
