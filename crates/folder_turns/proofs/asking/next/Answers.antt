@@ -6,7 +6,7 @@ use Rattle.folder_model.specs.Parts.{Parts}
 use Rattle.folder_protocol.specs.Goes.{GoesInTurn}
 use Rattle.folder_turns.specs.Calls.{call_asked, answered, calls_after}
 use Rattle.folder_turns.specs.Straying.{HasStrayed, IfStrayed}
-use Rattle.folder_turns.proofs.Runs.{told_in_turn, can_first, started, started_can, started_is}
+use Rattle.folder_turns.proofs.Runs.{told_in_turn, can_first, started_can, started_is}
 use Rattle.folder_turns.proofs.Steps.{asks_more, ends_more}
 use Rattle.folder_turns.proofs.asking.next.Goals as goal
 
