@@ -13,6 +13,7 @@ pub mod SummedSoFar
 pub mod Puts
 pub mod CanonicalJoins
 pub mod Fronts
+pub mod HeadLengths
 pub mod WholeFolders
 pub mod IdleLoads
 pub mod PartNames

@@ -3,6 +3,9 @@ ghost use Rattle.folder_parts.specs.CoverLaws.{CoverLaws};
 ghost use Rattle.folder_parts.specs.FolderLaws.{FolderLaws};
 ghost use Rattle.folder_parts.specs.ForgetFolderLaws.{ForgetFolderLaws};
 ghost use Rattle.folder_parts.specs.BroughtParts.{PartsAreBrought};
+ghost use Rattle.folder_parts.specs.Heads.{HeadsAreAhead};
+
+use crate::heads::HEAD_BYTES;
 
 /// Folders whose parts hold the same operations have the same joined file, byte for byte, and the same replica, so the same answers: in
 /// whatever order, however often and in however many parts it lies. A part that comes adds what it holds. A pack keeps what a folder
@@ -34,4 +37,10 @@ pub fn forget_folder_laws()
 /// a part represents all that it represents, and has the same rows and answers as the two joined. So the part may go.
 pub fn cover_laws()
     ensures { CoverLaws }
+{}
+
+/// The first [`HEAD_BYTES`] bytes of a part have its head: what [`part_head`](crate::part_head) reads of the whole part it reads of them alone,
+/// whatever the schema. The longest head has 2,189 bytes: that of 32 columns, all with names of 64 letters.
+pub fn heads_are_ahead()
+    ensures { HeadsAreAhead HEAD_BYTES }
 {}

@@ -22,7 +22,7 @@ pub use fault::{PartFault, PartRefusal};
 pub use forgetting::part_of_forget;
 pub use heads::{HEAD_BYTES, Head, part_head};
 pub use joining::Join;
-pub use laws::{cover_laws, folder_laws, forget_folder_laws, parts_are_brought};
+pub use laws::{cover_laws, folder_laws, forget_folder_laws, heads_are_ahead, parts_are_brought};
 pub use opening::{join_parts, open_parts, pack};
 pub use packing::{is_removed, packed_prefix};
 pub use part::Part;
