@@ -28,20 +28,29 @@ static void *room_for(size_t size) {
     return at;
 }
 
-/* Tells the name of a refusal and its sentence. */
-static void tell(uint8_t number, lanes_place place) {
-    uint8_t name[32], sentence[256];
-    size_t name_length = lanes_refusal(number, name, sizeof name), length = lanes_sentence(number, &place, sentence, sizeof sentence);
+/* The words of the folder's table, once they are known. */
+static uint8_t words[4096];
+static size_t words_length;
+
+/* Tells the name of a refusal and its sentence, which goes by the text that the call was given. */
+static void tell(uint8_t number, lanes_place place, uint8_t given, const void *text, size_t text_length) {
+    uint8_t name[32], sentence[1024];
+    lanes_refused refused = {place, number, given, 0, 1, 0};
+    size_t name_length = lanes_refusal(number, name, sizeof name);
+    size_t length = lanes_explain(&refused, text, text_length, words, words_length, words, 0, words, 0, sentence, sizeof sentence);
     fprintf(stderr, "refused %.*s: %.*s\n", (int)name_length, (const char *)name, (int)length, (const char *)sentence);
     if (number == LANES_SYSTEM) fprintf(stderr, "%s\n", strerror((int)place.first));
 }
 
-/* Ends the program if a call was refused. */
-static void expect(uint8_t number, lanes_place place) {
+/* Ends the program if a call was refused that was given a text. */
+static void expect_of(uint8_t number, lanes_place place, uint8_t given, const void *text, size_t text_length) {
     if (!number) return;
-    tell(number, place);
+    tell(number, place, given, text, text_length);
     exit(1);
 }
+
+/* Ends the program if a call was refused. */
+static void expect(uint8_t number, lanes_place place) { expect_of(number, place, LANES_OF_NOTHING, words, 0); }
 
 /* Ends the program if what a command came to is not that its part is there. */
 static int is_there(uint64_t came) {
@@ -56,17 +65,18 @@ static lanes_parts taken(const char *folder, lanes_part_names *names) {
     size_t at;
     uint8_t number = lanes_folder_read(folder, &parts, names, &at, &place);
     if (!number) return parts;
-    tell(number, place);
+    tell(number, place, LANES_OF_NOTHING, words, 0);
     fprintf(stderr, "%s%s%s\n", folder, at < names->count ? "/" : "", at < names->count ? names->names[at] : "");
     exit(1);
 }
 
-/* What all parts hold, as a table. */
+/* What all parts hold, as a table, whose words are known then. */
 static lanes_table opened(const char *folder, lanes_part_names *names) {
     lanes_table table = LANES_CLOSED;
     lanes_place place;
     lanes_parts parts = taken(folder, names);
     expect(lanes_parts_open(&parts, &table, &place), place);
+    expect(lanes_schema(&table, words, sizeof words, &words_length, &place), place);
     return table;
 }
 
@@ -80,20 +90,11 @@ static void put(const char *folder, bytes part) {
     free(part.at);
 }
 
-static bytes created(const uint8_t *words, size_t length) {
+static bytes created(const uint8_t *table, size_t length) {
     lanes_place place;
     bytes file = {room_for(4096), 0};
-    expect(lanes_create(words, length, file.at, 4096, &file.length, &place), place);
+    expect_of(lanes_create(table, length, file.at, 4096, &file.length, &place), place, LANES_OF_WORDS, table, length);
     return file;
-}
-
-/* The file of the empty table of the same columns. */
-static bytes emptied(lanes_table *table) {
-    lanes_place place;
-    uint8_t words[4096];
-    size_t length;
-    expect(lanes_schema(table, words, sizeof words, &length, &place), place);
-    return created(words, length);
 }
 
 /* The file of the rows of a text, as the batch 1.number, or, if that is 0, under a name that is drawn. */
@@ -108,7 +109,8 @@ static bytes loaded(bytes empty, const char *csv, uint32_t number) {
         free(load.at);
         room = load.length;
         load.at = room_for(room);
-        expect(lanes_import(empty.at, empty.length, (const uint8_t *)csv, strlen(csv), true, number ? 1 : 0, number, drawn, 4, load.at, room, &load.length, &place), place);
+        uint8_t refused = lanes_import(empty.at, empty.length, (const uint8_t *)csv, strlen(csv), true, number ? 1 : 0, number, drawn, 4, load.at, room, &load.length, &place);
+        expect_of(refused, place, LANES_OF_ROWS, csv, strlen(csv));
     }
     free(empty.at);
     return load;
@@ -117,7 +119,7 @@ static bytes loaded(bytes empty, const char *csv, uint32_t number) {
 static void import(const char *folder, const char *csv) {
     lanes_part_names names;
     lanes_table table = opened(folder, &names);
-    put(folder, loaded(emptied(&table), csv, 0));
+    put(folder, loaded(created(words, words_length), csv, 0));
     lanes_close(&table);
     free(names.names);
 }
@@ -129,8 +131,8 @@ static void load(const char *folder, uint32_t number, const char *csv) {
         lanes_place place;
         uint64_t came;
         lanes_table table = opened(folder, &names);
-        bytes batch = loaded(emptied(&table), csv, number);
-        expect(lanes_table_apply(&table, batch.at, batch.length, &place), place);
+        bytes batch = loaded(created(words, words_length), csv, number);
+        expect_of(lanes_table_apply(&table, batch.at, batch.length, &place), place, LANES_OF_INPUT, batch.at, batch.length);
         expect(lanes_folder_follow(folder, LANES_FOLDER_PUT_JUDGED, batch.at, batch.length, &names, NULL, &came, &place), place);
         lanes_close(&table);
         free(batch.at);
@@ -146,7 +148,7 @@ static void query(const char *folder, const char *sql) {
     static uint8_t answer[1 << 20];
     size_t length;
     lanes_table table = opened(folder, &names);
-    expect(lanes_ask(&table, (const uint8_t *)sql, strlen(sql), answer, sizeof answer, &length, &place), place);
+    expect_of(lanes_ask(&table, (const uint8_t *)sql, strlen(sql), answer, sizeof answer, &length, &place), place, LANES_OF_QUERY, sql, strlen(sql));
     fwrite(answer, 1, length < sizeof answer ? length : sizeof answer, stdout);
     lanes_close(&table);
     free(names.names);
@@ -183,13 +185,13 @@ static void pack(const char *folder) {
     exit(2);
 }
 
-int main(int count, char **words) {
-    const char *act = count > 2 ? words[2] : "";
-    if (count == 4 && !strcmp(act, "make")) put(words[1], created((const uint8_t *)words[3], strlen(words[3])));
-    else if (count == 4 && !strcmp(act, "import")) import(words[1], words[3]);
-    else if (count == 5 && !strcmp(act, "load")) load(words[1], (uint32_t)strtoul(words[3], NULL, 10), words[4]);
-    else if (count == 4 && !strcmp(act, "query")) query(words[1], words[3]);
-    else if (count == 3 && !strcmp(act, "pack")) pack(words[1]);
+int main(int count, char **given) {
+    const char *act = count > 2 ? given[2] : "";
+    if (count == 4 && !strcmp(act, "make")) put(given[1], created((const uint8_t *)given[3], strlen(given[3])));
+    else if (count == 4 && !strcmp(act, "import")) import(given[1], given[3]);
+    else if (count == 5 && !strcmp(act, "load")) load(given[1], (uint32_t)strtoul(given[3], NULL, 10), given[4]);
+    else if (count == 4 && !strcmp(act, "query")) query(given[1], given[3]);
+    else if (count == 3 && !strcmp(act, "pack")) pack(given[1]);
     else {
         fprintf(stderr, "keeps_folder FOLDER make WORDS | import CSV | load NUMBER CSV | query SQL | pack\n");
         return 2;

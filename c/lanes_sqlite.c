@@ -141,6 +141,19 @@ static int refuse(vtab *v, const char *path, uint8_t number, const lanes_place *
     return fault(v, SQLITE_ERROR, sqlite3_mprintf("lanes: %s: %.*s: %.*s", path, names, name, letters, sentence));
 }
 
+/* The same of a text: a query, or the bytes of a file. The table may be closed. */
+static int refuse_text(vtab *v, uint8_t number, const lanes_place *place, uint8_t given, const void *text, size_t length, lanes_table *table) {
+    uint8_t name[32], sentence[1024], words[4096];
+    size_t words_length;
+    lanes_place nowhere;
+    lanes_refused refused = {*place, number, given, 0, 0, 0};
+    if (number == LANES_MEMORY) return SQLITE_NOMEM;
+    if (lanes_schema(table, words, sizeof words, &words_length, &nowhere) || words_length > sizeof words) words_length = 0;
+    int names = (int)lanes_refusal(number, name, sizeof name);
+    int letters = (int)lanes_explain(&refused, text, length, words, words_length, words, 0, words, 0, sentence, sizeof sentence);
+    return fault(v, SQLITE_ERROR, sqlite3_mprintf("lanes: %s: %.*s: %.*s", v->path, names, name, letters, sentence));
+}
+
 static int unreadable(vtab *v, const char *why) { return fault(v, SQLITE_CANTOPEN, sqlite3_mprintf("lanes: %s can't be read: %s", v->path, why)); }
 
 /* Blocks. */
@@ -189,8 +202,11 @@ static int fill_block(vtab *v, state *s, block *b) {
         else
             number = LANES_MEMORY;
     }
+    int code = SQLITE_OK;
+    if (number && place.second) code = refuse_text(v, number, &place, LANES_OF_NAMES, names, strlen(names), &s->table);
+    else if (number) code = refuse_text(v, number, &place, LANES_OF_CONDITION, condition, length, &s->table);
     sqlite3_free(names);
-    return number ? refuse(v, v->path, number, &place) : SQLITE_OK;
+    return code;
 }
 
 /* Whether a block has what is wanted. It may have fewer batches. */
@@ -253,7 +269,7 @@ static int ask(vtab *v, state *s) {
             return find_lines(s);
         }
         free(text);
-        if (number) return refuse(v, v->path, number, &place);
+        if (number) return refuse_text(v, number, &place, LANES_OF_QUERY, v->sql, strlen(v->sql), &s->table);
         room = length;
     }
     return SQLITE_OK;
@@ -287,7 +303,7 @@ static void close_state(state *s) {
 static int open_bytes(vtab *v, const void *bytes, size_t length, state *s) {
     lanes_place place;
     uint8_t number = lanes_open(bytes, length, &s->table, &place);
-    return number ? refuse(v, v->path, number, &place) : SQLITE_OK;
+    return number ? refuse_text(v, number, &place, LANES_OF_INPUT, bytes, length, &s->table) : SQLITE_OK;
 }
 
 /* Says why a folder, or a part of it, isn't read. */

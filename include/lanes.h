@@ -698,6 +698,39 @@ size_t lanes_refusal(uint8_t number, uint8_t *out, size_t room);
  * has more than 256 bytes. */
 size_t lanes_sentence(uint8_t number, const lanes_place *place, uint8_t *out, size_t room);
 
+/* What the text is that lanes_explain is given: nothing; the query or the condition; the names of columns; the rows as comma-separated values;
+ * the words of a table that is to be made; the file or the message, of which the first 16 bytes are enough. */
+enum {
+    LANES_OF_NOTHING = 0,
+    LANES_OF_QUERY = 1,
+    LANES_OF_CONDITION = 2,
+    LANES_OF_NAMES = 3,
+    LANES_OF_ROWS = 4,
+    LANES_OF_WORDS = 5,
+    LANES_OF_INPUT = 6
+};
+
+/* A refusal, and what the text is that comes with it. */
+typedef struct lanes_refused {
+    lanes_place place;   /* as the call told it */
+    uint8_t number;      /* as the call answered it */
+    uint8_t given;       /* LANES_OF_NOTHING to LANES_OF_INPUT; another number is taken for LANES_OF_NOTHING */
+    uint8_t separator;   /* the byte between two fields of rows, or between two names; 0 is a comma between fields and a space between names */
+    uint8_t has_heading; /* of rows: 1 if the first line names the columns, and else 0 */
+    uint8_t needs_ends;  /* of rows: 1 if a last line without its end is refused, and else 0 */
+} lanes_refused;
+
+/* Gives the sentence that the program gives of a refusal, without what it is said of, as "byte 40: equal is written =", without a byte 0 at
+ * its end, and answers how many bytes it has: 0 if the number has no sentence, or if memory runs out. It is written if it fits. No sentence
+ * has more than 1,024 bytes: a longer one is cut, and ends in "...". None has a control character, whatever the inputs are.
+ *
+ * `text` is what the refused call was given, as refused->given says. `table` are the words of the table, as lanes_schema gives them, or no
+ * bytes if it isn't known. Of rows `null_word` is the word that is a null in addition to the usual ones, and `columns` says what the fields are,
+ * as the program's --columns; each may be of no bytes. The rows are read once more, up to their first fault. If the text does not have the
+ * fault that the number and the place name, the sentence is that of lanes_sentence. */
+size_t lanes_explain(const lanes_refused *refused, const uint8_t *text, size_t text_length, const uint8_t *table, size_t table_length,
+                     const uint8_t *null_word, size_t null_word_length, const uint8_t *columns, size_t columns_length, uint8_t *out, size_t room);
+
 /* Gives the library's version, as "0.10.0", without a byte 0 at its end, and answers how many bytes it has. It is written if it
  * fits. */
 size_t lanes_version(uint8_t *out, size_t room);

@@ -4,7 +4,7 @@ from __future__ import annotations
 
 from typing import TYPE_CHECKING, Any, Dict, Iterable, Iterator, List, Mapping, NamedTuple, Optional, Sequence, Tuple
 
-from . import arguments, calls, conditions
+from . import arguments, calls, explaining
 
 if TYPE_CHECKING:
     from .table import Table
@@ -45,9 +45,9 @@ class Selection:
 
     def __init__(self, table: Table, columns: Optional[Iterable[str]], where: str, between: Optional[Tuple[int, int]] = None) -> None:
         kinds = table.columns
-        names = list(kinds) if columns is None else _names_of(columns, kinds)
+        names = list(kinds) if columns is None else _names_of(columns, table)
         self._opened, self._condition, self._between = table._asked(), arguments.text_of("where", where), between
-        with conditions.judged("where", self._condition, kinds):
+        with explaining.judged("where", self._condition, table):
             #: How many rows there are.
             self.rows = self._opened.columns(" ".join(names).encode(), self._condition, *calls.NO_ROOM, between)
         #: The columns: of each its name and its type.
@@ -81,20 +81,21 @@ class Selection:
         return BITS[self.kinds[name]] // 8 + 1
 
 
-def _names_of(columns: Iterable[str], kinds: Mapping[str, str]) -> list[str]:
+def _names_of(columns: Iterable[str], table: Table) -> list[str]:
     """The columns that were named, as the table has them.
 
     Raises:
         TypeError: they are one text, or no texts.
         Refused: `NoSuchColumn`.
     """
+    kinds = table.columns
     found: list[str] = []
     for word in arguments.several("columns", "several names, as ['SITE'],", columns):
         if not isinstance(word, str):
             raise arguments.wrong("columns", "the name of a column", word)
         name = arguments.column_of(word)
         if name not in kinds:
-            raise conditions.no_column("columns", word, len(" ".join([*found, ""])), kinds)
+            raise explaining.no_column("columns", ",".join([*found, word]), len(",".join([*found, ""])), table)
         found.append(name)
     return found
 

@@ -32,19 +32,26 @@ class Refused(Error, ValueError):
         name: its name, as `Syntax`.
         place: its place, as the name explains it: `(7,)` is a byte from 0, for `Conflict`, `NotApart` and `Missing` it is the batch's origin and number, and for `BadCsv`
             the line and its field, from 1. It is empty if the refusal has no place.
-        sentence: what it means, in words, with the place.
+        sentence: what is wrong and what to write instead, in the words of the program, with the place.
+        subject: what it is said of, as the name of an argument or a path; empty if it is said of nothing.
     """
 
-    def __init__(self, number: int, name: str, place: tuple[int, int], sentence: str) -> None:
-        super().__init__(number, name, place, sentence)
+    def __init__(self, number: int, name: str, place: tuple[int, int], sentence: str, subject: str = "") -> None:
+        super().__init__(number, name, place, sentence, subject)
         self.number = number
         self.name = name
         self.place: tuple[int, ...] = place[: _NUMBERS.get(name, 0)]
         self.sentence = sentence
+        self.subject = subject
+
+    def said_of(self, subject: str) -> Refused:
+        """The same refusal, said of something."""
+        return type(self)(self.number, self.name, self.args[2], self.sentence, subject)
 
     def __str__(self) -> str:
         between = "." if self.name in ("Conflict", "NotApart", "Missing") else " "
-        return " ".join([self.name, *filter(None, [between.join(map(str, self.place))])]) + f": {self.sentence}"
+        called = " ".join([self.name, *filter(None, [between.join(map(str, self.place))])])
+        return ": ".join([called, *filter(None, [self.subject]), self.sentence])
 
 
 class OutOfMemory(Refused, MemoryError):

@@ -7,7 +7,7 @@ import html
 import os
 from typing import TYPE_CHECKING, Any, Callable, Iterable, Mapping, NamedTuple, Optional, Tuple, TypeVar, Union
 
-from . import arguments, calls, folder_driver, part_folder, resting
+from . import arguments, calls, explaining, folder_driver, part_folder, resting
 from .answer import Answer
 from .batch_name import GivenName
 from .column_types import ColumnTypes
@@ -84,8 +84,8 @@ class Folder:
         Raises:
             FileNotFoundError: there is no part.
             Damaged: a part has other bytes than its name says.
-            Refused: a part's first fault, or `SchemaDiffers`, `Conflict` or `Full` of parts that don't go together. The sentence names
-                the part.
+            Refused: a part's first fault, or `SchemaDiffers`, `Conflict` or `Full` of parts that don't go together. Its subject is the
+                path of the part.
             Busy: others have had the folder for ten seconds, or parts come and go.
         """
         return self._joined()[0]
@@ -329,18 +329,16 @@ class Folder:
         for name in names:
             data = part_folder.read_part(self.path, name)
             try:
-                parts.take(name, data)
+                with explaining.of_input(data):
+                    parts.take(name, data)
             except Refused as refusal:
                 raise self._of_part(refusal, name) from None
         return parts
 
     def _of_part(self, refusal: Refused, name: str) -> Exception:
-        """A refusal whose sentence names the part."""
+        """A refusal that is said of the part."""
         path = os.path.join(self.path, name)
-        if refusal.number == _DAMAGED:
-            return Damaged(path)
-        first, second, *_ = (*refusal.place, 0, 0)
-        return Refused(refusal.number, refusal.name, (first, second), f"{path}: {refusal.sentence}")
+        return Damaged(path) if refusal.number == _DAMAGED else refusal.said_of(path)
 
     def _heads(self) -> _Heads:
         """What the heads of the parts say. The smallest part is read whole.

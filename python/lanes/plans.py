@@ -120,7 +120,7 @@ def finish(partial: _Bytes, expect: Iterable[_Bytes] = ()) -> Answer:
 
 
 def _of_summary(refusal: Refused, given: Partial, expected: list[bytes]) -> Refused:
-    """A refusal whose sentence names the summary that it is of, if it is of one."""
+    """A refusal that is said of the summary that it is of, if it is of one."""
     first, second = refusal.args[2]  # of a fault of a summary the second number is the summary's, from 1
     at: Optional[int] = None
     if refusal.number == _MISSING:
@@ -129,7 +129,7 @@ def _of_summary(refusal: Refused, given: Partial, expected: list[bytes]) -> Refu
         at = next((at for at, summary in enumerate(expected) if Schema.of(summary)[:2] != Schema.of(given)[:2]), None)
     elif second:
         at, second = second - 1, 0
-    return refusal if at is None else calls.refused(refusal.number, first, second, f"expect[{at}]: {refusal.sentence}")
+    return refusal if at is None else calls.refused(refusal.number, first, second).said_of(f"expect[{at}]")
 
 
 def check_apart(tables: Iterable[Table]) -> None:

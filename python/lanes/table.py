@@ -12,7 +12,7 @@ import stat
 import zlib
 from typing import IO, TYPE_CHECKING, Any, Iterable, Iterator, Mapping, NamedTuple, Optional, Type, TypeVar, Union
 
-from . import arguments, calls, conditions, replacing
+from . import arguments, calls, explaining, replacing
 from .answer import Answer, Value
 from .batch_name import BatchName, GivenName, name_of
 from .column_types import TYPES, ColumnTypes, holding, type_of
@@ -138,7 +138,11 @@ class Table:
             if kind is None:
                 raise calls.refused(_BAD_SCHEMA, sentence=f"the type {pair[1]!r} of column {pair[0]} is unknown: a type is TINYINT, SMALLINT, INTEGER or BIGINT")
             words += [_judged("columns", arguments.text_of("columns", pair[0]).decode()), kind]
-        return cls(calls.given(calls.CREATE, _ROOM, arguments.text_of("columns", " ".join(words))))
+        text = arguments.text_of("columns", " ".join(words))
+        try:
+            return cls(calls.given(calls.CREATE, _ROOM, text))
+        except Refused as refused:
+            raise calls.explained(refused, calls.Given(calls.WORDS, text)) from None
 
     @classmethod
     def from_frame(cls: Type[_Self], name: str, frame: Any, *, batch: Optional[GivenName] = None) -> _Self:
@@ -195,7 +199,7 @@ class Table:
         Raises:
             IsADirectoryError: it is a folder.
             OSError: the file can't be opened.
-            Refused: the file's first fault. The sentence names the path.
+            Refused: the file's first fault. Its subject is the path.
         """
         name = arguments.path_of("path", path)
         try:
@@ -211,8 +215,7 @@ class Table:
         try:
             table._asked()
         except Refused as refusal:
-            first, second, *_ = (*refusal.place, 0, 0)
-            raise calls.refused(refusal.number, first, second, f"{name}: {refusal.sentence}") from None
+            raise refusal.said_of(name) from None
         return table
 
     @classmethod
@@ -301,7 +304,10 @@ class Table:
         Raises:
             Refused: a fault of the query with its byte, as `Syntax`, or of the file.
         """
-        return Answer.from_text(self._asked().ask(arguments.text_of("sql", sql)).decode(), sql)
+        text = arguments.text_of("sql", sql)
+        opened = self._asked()
+        with explaining.explained(self, calls.Given(calls.QUERY, text)):
+            return Answer.from_text(opened.ask(text).decode(), sql)
 
     def partial(self, sql: str) -> Partial:
         """What this table gives to the answer of a query over several tables, for `lanes.combine` and `lanes.finish`.
@@ -309,7 +315,10 @@ class Table:
         Raises:
             Refused: what `query` refuses.
         """
-        return Partial(self._asked().partial(self._length() + _ROOM, arguments.text_of("sql", sql)))
+        text = arguments.text_of("sql", sql)
+        opened = self._asked()
+        with explaining.explained(self, calls.Given(calls.QUERY, text)):
+            return Partial(opened.partial(self._length() + _ROOM, text))
 
     def queries(self, sqls: Iterable[str]) -> list[Answer]:
         """The answers of several queries, in order.
@@ -361,7 +370,8 @@ class Table:
         origin, number = name_of(batch) if batch is not None else (0, 0)
         words = (ctypes.c_uint64 * _WORDS)(*(secrets.randbits(64) for _ in range(_WORDS)))
         room = self._length() + len(text) + _ROOM
-        return self._made(calls.made(calls.IMPORT, room, self._file, text, has_heading, origin, number, ctypes.addressof(words), _WORDS))
+        with explaining.explained(self, calls.Given(calls.ROWS, text, has_heading=has_heading)):
+            return self._made(calls.made(calls.IMPORT, room, self._file, text, has_heading, origin, number, ctypes.addressof(words), _WORDS))
 
     def to_numpy(self, columns: Optional[Iterable[str]] = None, where: str = "") -> Columns:
         """The live rows, in order of row name, as arrays of numpy: a dict of `ColumnData`, of each column its values, of the column's own type,
@@ -462,13 +472,13 @@ class Table:
             Refused: a fault of the condition with its byte, or of the file.
         """
         text = arguments.text_of("condition", condition)
-        with conditions.judged("condition", text, self.columns):
+        with explaining.judged("condition", text, self):
             return self._made(calls.made(calls.DELETE, 2 * self._length() + _ROOM, self._file, text))
 
     def _delete_part(self, condition: str) -> tuple[int, bytes]:
         """How many rows a delete finds, and the file of their deletions alone."""
         text = arguments.text_of("condition", condition)
-        with conditions.judged("condition", text, self.columns):
+        with explaining.judged("condition", text, self):
             rows, part = self._asked().delete_part(_ROOM, text)
         return rows, bytes(part)
 
@@ -541,7 +551,9 @@ class Table:
         Raises:
             Refused: a fault of the summary or of the file, or `SchemaDiffers`.
         """
-        return calls.given(calls.OFFER, self._length() + _ROOM, self._file, arguments.bytes_of("summary", summary))
+        held, given = self._file, arguments.bytes_of("summary", summary)
+        with explaining.of_input(given):
+            return calls.given(calls.OFFER, self._length() + _ROOM, held, given)
 
     def apply(self: _Self, offer: _Bytes) -> _Self:
         """The table with what an offer brings. A file's bytes are an offer too.
@@ -580,13 +592,16 @@ class Table:
 
     def _applied(self: _Self, offer: calls.Input) -> _Self:
         """The table with what an offer brings."""
-        return self._made(calls.made(calls.APPLY, self._length() + calls.length_of(offer) + _ROOM, self._file, offer))
+        with explaining.of_input(offer):
+            return self._made(calls.made(calls.APPLY, self._length() + calls.length_of(offer) + _ROOM, self._file, offer))
 
     def _asked(self) -> calls.Opened:
         """What queries are asked of. Two threads that ask first at the same time may both open it; one opening stays."""
         opened = self._opened
         if opened is None:
-            opened = self._opened = calls.Opened.of_file(self._file)
+            file = self._file
+            with explaining.of_input(file):
+                opened = self._opened = calls.Opened.of_file(file)
         return opened
 
     def _schema(self) -> Schema:
@@ -595,6 +610,13 @@ class Table:
         if schema is None:
             schema = self._read_schema = Schema.of(bytes(self._view()[:_FRONT]))
         return schema
+
+    def _words(self) -> bytes:
+        """The words of the table: its name, and column by column the column's name and its type."""
+        words = [self.name]
+        for pair in self.columns.items():
+            words += pair
+        return " ".join(words).encode()
 
     def _front(self) -> bytes:
         """The front of the table's files, up to the count of batches."""
@@ -659,7 +681,8 @@ def _judged(argument: str, word: str) -> str:
         Refused: `BadSchema`.
     """
     if not _WORD.fullmatch(word):
-        raise calls.refused(_BAD_SCHEMA, sentence=f"{argument}: {word!r} is no name: a name is a letter, and up to 63 letters, digits or _")
+        words = f"{word} A INTEGER" if argument == "name" else f"T {word} INTEGER"
+        raise calls.explained(calls.refused(_BAD_SCHEMA), calls.Given(calls.WORDS, words.encode())).said_of(argument)
     return word
 
 

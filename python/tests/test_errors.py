@@ -80,21 +80,93 @@ class Raised(InRoom):
 
 
 class Conditions(InRoom):
-    def test_a_condition_that_is_refused_tells_its_argument_and_the_word(self) -> None:
+    def test_a_condition_that_is_refused_tells_its_argument_and_what_to_write(self) -> None:
         for condition, place, words in [
-            ("Zed > 1", (0,), "NoSuchColumn 0: condition: 'Zed' is no column of the table, which has A, B"),
-            ("A = 1 AND zed = 2", (10,), "NoSuchColumn 10: condition: 'zed' is no column of the table, which has A, B"),
-            ("A == 2", (3,), "Syntax 3: condition: '=': byte 3: "),
-            ("A =", (3,), "Syntax 3: condition: byte 3: "),
-            ("A = \u00e9", (4,), "Syntax 4: condition: '\u00e9': byte 4: "),
-            (f"A = 1{'0' * 30}", (4,), f"NumberTooLarge 4: condition: '1{'0' * 30}': byte 4: "),
-            ("(" * 65 + "A = 1" + ")" * 65, (), "TooDeep: condition: "),
+            ("Zed > 1", (0,), 'NoSuchColumn 0: condition: byte 0: there is no column "Zed": the table has A, B'),
+            ("A = 1 AND zed = 2", (10,), 'NoSuchColumn 10: condition: byte 10: there is no column "zed": the table has A, B'),
+            ("A == 2", (3,), "Syntax 3: condition: byte 3: equal is written ="),
+            ("A =", (3,), "Syntax 3: condition: byte 3: the text ends too early; expected a column or a whole number"),
+            ("A = \u00e9", (4,), "Syntax 4: condition: byte 4: names have the letters A to Z, digits and _ only, in either case"),
+            (f"A = 1{'0' * 30}", (4,), "NumberTooLarge 4: condition: byte 4: the number has more than 30 digits"),
+            ("(" * 65 + "A = 1" + ")" * 65, (), "TooDeep: condition: more than 64 parentheses are open at once"),
         ]:
             for act in TABLE.delete, self.folder.delete:
                 with self.subTest(condition=condition), self.assertRaises(Refused) as caught:
                     act(condition)
-                self.assertEqual(caught.exception.place, place)
-                self.assertTrue(str(caught.exception).startswith(words), str(caught.exception))
+                self.assertEqual((caught.exception.place, caught.exception.subject), (place, "condition"))
+                self.assertEqual(str(caught.exception), words)
+                self.assertEqual(str(caught.exception).partition(": condition: ")[2], caught.exception.sentence)
+
+
+class Sentences(InRoom):
+    """What is said of a refusal is what the program says, but for what it is said of."""
+
+    def told(self, act: Callable[[], object], wanted: str, subject: str = "") -> None:
+        with self.assertRaises(Refused) as caught:
+            act()
+        self.assertEqual((caught.exception.sentence, caught.exception.subject), (wanted, subject))
+
+    def test_a_query_tells_what_to_write(self) -> None:
+        for sql, wanted in [
+            ("SELECT * FROM T", "byte 7: a query lists grouping columns and set functions: lanes dump writes the rows"),
+            ("SELECT COUNT(*) FROM U", 'there is no table "U": the table here is T'),
+            ("SELECT A FROM T", 'byte 7: "A" must be in GROUP BY or inside a set function'),
+            ("SELECT COUNT(*) FROM T LIMIT 1", "byte 23: there is no LIMIT: pipe the answer through head"),
+        ]:
+            for act in TABLE.query, TABLE.partial, self.folder.query, self.folder.partial:
+                with self.subTest(sql=sql):
+                    self.told(lambda: act(sql), wanted)
+
+    def test_rows_tell_the_column_and_what_is_wrong(self) -> None:
+        for text, heading, wanted in [
+            ("A,C\n", True, 'line 1, field 2: "C" is not a column of the table, which has A, B: name the fields by --columns'),
+            ("1,2\n", True, 'line 1, field 1: "1" is not a column of the table, which has A, B: if the first line is a row, say --no-header'),
+            ("A,B\n", False, "line 1, column A: this line has the names of columns: leave --no-header out"),
+            ("A,B\n99999999999,2\n", True, 'line 2, column A: "99999999999" is outside the type INTEGER'),
+            ("B,A\n1,x\n", True, 'line 2, column A: "x" is not a whole number'),
+            ("A;B\n", True, "line 1: the line has 1 field, and the table has 2 columns; semicolons seem to separate its fields"),
+            ("", True, "line 1: the header is missing: did the command before it fail?"),
+        ]:
+            for act in TABLE.import_csv, self.folder.import_csv:
+                with self.subTest(text=text):
+                    self.told(lambda: act(text, heading=heading), wanted)
+        self.told(lambda: TABLE.import_csv("5,5\n", heading=False, batch="3.1"), "this has batch 3.1 already, with other rows")
+
+    def test_names_and_types_of_a_table_tell_which(self) -> None:
+        for name, columns, wanted, subject in [
+            ("SELECT", {"A": "INTEGER"}, '"SELECT" is a keyword of the query language and can\'t be a name', ""),
+            ("1T", {"A": "INTEGER"}, '"1T" is not a name: a name is a letter and up to 63 letters, digits or _', "name"),
+            ("T", {"A-B": "INTEGER"}, '"A-B" is not a name: a name is a letter and up to 63 letters, digits or _', "columns"),
+            ("T", {"A": "INTEGER", "a": "BIGINT"}, 'two columns have the name "a"', ""),
+            ("T", {f"A{at}": "INTEGER" for at in range(33)}, "a table has 1 to 32 columns, and these are 33", ""),
+        ]:
+            with self.subTest(name=name, columns=columns):
+                self.told(lambda: Table.create(name, columns), wanted, subject)
+
+    def test_an_input_of_another_kind_is_named(self) -> None:
+        path = os.path.join(self.path, "..", "visits.csv")
+        with open(path, "w") as file:
+            file.write("A,B\n1,2\n")
+        text = "this is a text file, not a lanes file: import CSV with lanes import, run a script with lanes run"
+        summary = "this is a summary: lanes offer and lanes inspect read it"
+        self.told(lambda: Table.open(path), text, path)
+        self.told(lambda: Table.from_bytes(b"A,B\n"), text)
+        self.told(lambda: Table.from_bytes(TABLE.summary()), summary)
+        self.told(lambda: TABLE.apply(TABLE.summary()), summary)
+        self.told(lambda: TABLE.offer(b"A,B\n"), text)
+        part = part_folder.put(self.path, b"A,B\n")
+        self.told(self.folder.read, text, os.path.join(self.path, part))
+
+    def test_no_sentence_is_long_or_moves_a_terminal(self) -> None:
+        wide = Table.create("T", {f"A{at:063}": "INTEGER" for at in range(32)})
+        with self.assertRaises(Refused) as caught:
+            wide.delete("Z = 1")
+        self.assertEqual((len(caught.exception.sentence), caught.exception.sentence[-3:]), (1024, "..."))
+        for text in "\x1b[31m", "\u202e", "\x00", "\x7f\x85", "'\n\r\t":
+            for act in TABLE.query, TABLE.delete, TABLE.import_csv:
+                with self.subTest(text=text), self.assertRaises(Refused) as caught:
+                    act(text + "\n")
+                self.assertTrue(caught.exception.sentence.isprintable(), caught.exception.sentence)
 
 
 class Arguments(InRoom):

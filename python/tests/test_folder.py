@@ -152,7 +152,7 @@ class Calls(InFolder):
             part = part_folder.put(self.path, data)
             with self.assertRaises(Refused) as caught:
                 self.folder.read()
-            self.assertIn(os.path.join(self.path, max(part, name) if data[:4] == b"FLCF" and len(data) > 30 else part), caught.exception.sentence)
+            self.assertIn(os.path.join(self.path, max(part, name) if data[:4] == b"FLCF" and len(data) > 30 else part), caught.exception.subject)
             os.unlink(os.path.join(self.path, part))
         os.unlink(os.path.join(self.path, name))
         for call in self.folder.read, lambda: self.folder.import_csv("1,1\n", heading=False):
@@ -257,7 +257,7 @@ class Heads(InFolder):
                 with self.subTest(columns=columns), self.assertRaises(Refused) as caught:
                     act()
                 self.assertEqual(caught.exception.name, "SchemaDiffers")
-                self.assertIn(os.path.join(self.path, before[1]), caught.exception.sentence)
+                self.assertEqual(os.path.join(self.path, before[1]), caught.exception.subject)
                 self.assertEqual(self.folder.parts(), before)
             os.unlink(os.path.join(self.path, other))
         self.folder.delete_rows("1.1", 0)

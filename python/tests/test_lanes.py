@@ -129,8 +129,8 @@ class Queries(unittest.TestCase):
             counts(FIRST).query("SELECT VISITS FROM COUNTS")
         refused = caught.exception
         self.assertEqual((refused.number, refused.name, refused.place), (28, "NoSuchColumn", (7,)))
-        self.assertEqual(refused.sentence, "byte 7: unknown column")
-        self.assertEqual(str(refused), "NoSuchColumn 7: byte 7: unknown column")
+        self.assertEqual(refused.sentence, 'byte 7: there is no column "VISITS": the table has SITE, HITS')
+        self.assertEqual(str(refused), f"NoSuchColumn 7: {refused.sentence}")
 
     def test_a_query_of_other_letters_is_refused_at_its_byte(self) -> None:
         with self.assertRaises(Refused) as caught:

@@ -98,7 +98,8 @@ class Rows(unittest.TestCase):
                 with self.assertRaises(Refused) as caught:
                     Table.open(path)
                 self.assertEqual(caught.exception.name, name)
-                self.assertTrue(caught.exception.sentence.startswith(f"{path}: "), caught.exception)
+                self.assertEqual(caught.exception.subject, path)
+                self.assertTrue(str(caught.exception).partition(": ")[2].startswith(f"{path}: "), caught.exception)
             with self.assertRaises(IsADirectoryError) as told:
                 Table.open(room)
             self.assertEqual(told.exception.filename, room)
@@ -336,7 +337,7 @@ class Changes(unittest.TestCase):
     def test_a_conflict_is_named_as_by_the_program(self) -> None:
         with self.assertRaises(Refused) as caught:
             visits().import_csv("SITE,HITS\n5,5\n", batch="1.1")
-        self.assertEqual(str(caught.exception), "Conflict 1.1: both have a batch 1.1, with different rows")
+        self.assertEqual(str(caught.exception), "Conflict 1.1: this has batch 1.1 already, with other rows")
 
 
 if __name__ == "__main__":

@@ -344,6 +344,58 @@ static void try_sentences(void) {
     expect(lanes_version(out, ROOM) == strlen(LANES_VERSION) && memcmp(out, LANES_VERSION, strlen(LANES_VERSION)) == 0 && is_untouched(out, strlen(LANES_VERSION)), "the version is the header's");
 }
 
+/* Whether a sentence is one that a terminal can show. */
+static bool is_shown(const uint8_t *sentence, size_t length) {
+    for (size_t at = 0; at < length; at++)
+        if (sentence[at] < 32 || sentence[at] == 127 || (sentence[at] == 0xc2 && sentence[at + 1] < 0xa0)) return false;
+    return true;
+}
+
+/* What is said of a refusal with a text and the words of a table, in a room that is as large as it claims, and in one that claims far more. */
+static void explain(const lanes_refused *refused, const char *text, const char *table) {
+    static uint8_t out[ROOM], again[ROOM];
+    bool is_named = refused->number >= 1 && refused->number <= LANES_SYSTEM;
+    bytes words = copy_of(table, strlen(table)), given = copy_of(text, strlen(text));
+    memset(out, FILLER, ROOM);
+    size_t length = lanes_explain(refused, given.at, given.length, words.at, words.length, given.at, given.length, words.at, words.length, out, 1024);
+    expect((length != 0) == is_named && length <= 1024 && is_untouched(out, length), "an explanation");
+    expect(is_shown(out, length), "an explanation without control characters");
+    memset(again, FILLER, ROOM);
+    size_t same = lanes_explain(refused, given.at, given.length, words.at, words.length, given.at, given.length, words.at, words.length, again, (size_t)1 << 48);
+    expect(same == length && memcmp(out, again, ROOM) == 0, "an explanation in a room of 2^48 bytes");
+    expect(lanes_explain(refused, given.at, 0, words.at, 0, given.at, 0, words.at, 0, again, 0) <= 1024, "an explanation of nothing");
+    free(words.at);
+    free(given.at);
+}
+
+static void try_explanations(void) {
+    static const char *const texts[] = {"", "SELECT A FROM \xff\xfe", "A,B\n1\n\x01\x7f,2", "T A INTEGER A INTEGER", "\xe2\x80\xae\x1b[31m >= = \xc2\x85", "x\ty,\x07z\n1;2\n"};
+    static const char *const tables[] = {"", "T A INTEGER B SMALLINT", "U C BIGINT", "T A", "\xff\xff \x01"};
+    static const lanes_place places[] = {{0, 0}, {1, 0}, {2, 1}, {7, 3}, {UINT64_MAX, UINT64_MAX}};
+    for (unsigned number = 0; number <= LANES_SYSTEM + 2; number++)
+        for (uint8_t given = 0; given < 8; given++)
+            for (size_t at = 0; at < sizeof texts / sizeof *texts * (sizeof places / sizeof *places); at++) {
+                lanes_refused refused;
+                memset(&refused, 0, sizeof refused);
+                refused.number = (uint8_t)number, refused.given = given, refused.place = places[at % 5];
+                refused.separator = at % 3 == 0 ? 0 : at % 3 == 1 ? ';' : 0xff;
+                refused.has_heading = (uint8_t)(at * 7), refused.needs_ends = (uint8_t)(at * 11);
+                explain(&refused, texts[at / 5], tables[at % (sizeof tables / sizeof *tables)]);
+            }
+}
+
+/* A table of so many long names that a sentence which has all of them is cut. */
+static void try_long_sentences(void) {
+    char table[32 * 80] = "T", *end = table + 1;
+    static uint8_t out[ROOM];
+    for (int column = 0; column < 32; column++) end += sprintf(end, " A%063d INTEGER", column);
+    lanes_refused refused;
+    memset(&refused, 0, sizeof refused);
+    refused.number = LANES_NO_SUCH_COLUMN, refused.given = LANES_OF_CONDITION;
+    size_t length = lanes_explain(&refused, text_of("Z = 1"), 5, text_of(table), strlen(table), text_of(""), 0, text_of(""), 0, out, ROOM);
+    expect(length == 1024 && memcmp(out + 1021, "...", 3) == 0, "a long sentence is cut");
+}
+
 /* What one thread is told, again and again, beside what was told before there were threads. */
 typedef struct errand {
     const inputs *given;
@@ -393,6 +445,8 @@ int main(void) {
     try_forget(&good);
     try_bad_files(&good);
     try_sentences();
+    try_explanations();
+    try_long_sentences();
     try_threads(&good);
     free_inputs(&good);
     return told_all("hostile");

@@ -76,12 +76,12 @@ def columns_and_conditions_that_are_wrong_are_told_by_their_names():
     table = Table.create("T", {"A": "INTEGER", "B": "BIGINT"})
     for call in table.to_numpy, table.to_pandas:
         for columns, where, kind, words in [
-            (["A", "c"], "", Refused, "NoSuchColumn 2: columns: 'c' is no column of the table, which has A, B"),
-            (["A B"], "", Refused, "NoSuchColumn 0: columns: 'A B' is no column"),
-            (["\u00e9"], "", Refused, "NoSuchColumn 0: columns: '\u00e9' is no column"),
-            (["A"], "Zed > 1", Refused, "NoSuchColumn 0: where: 'Zed' is no column of the table, which has A, B"),
+            (["A", "c"], "", Refused, 'NoSuchColumn 2: columns: byte 2: there is no column "c": the table has A, B'),
+            (["A B"], "", Refused, 'NoSuchColumn 0: columns: byte 0: there is no column "A B"'),
+            (["\u00e9"], "", Refused, 'NoSuchColumn 0: columns: byte 0: there is no column "\u00e9"'),
+            (["A"], "Zed > 1", Refused, 'NoSuchColumn 0: where: byte 0: there is no column "Zed": the table has A, B'),
             (None, "A =", Refused, "Syntax 3: where: byte 3: "),
-            (["A"], "1 = 1 GROUP BY A", Refused, "Syntax 6: where: 'GROUP': byte 6: "),
+            (["A"], "1 = 1 GROUP BY A", Refused, "Syntax 6: where: byte 6: write the condition alone"),
             ("A", "", TypeError, "columns: several names"),
             (5, "", TypeError, "columns: several names"),
             ([5], "", TypeError, "columns: the name of a column"),

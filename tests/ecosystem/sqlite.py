@@ -487,7 +487,9 @@ def what_is_wrong_is_said(extension):
             (f"'{room}'", "has no part, so it is no replica"),
             ("", "a file is wanted"),
             (f"'{path}', 'SELECT 1', 2", "a file is wanted"),
-            (f"'{path}', 'SELECT B FROM T'", "NoSuchColumn: byte 7: unknown column"),
+            (f"'{path}', 'SELECT B FROM T'", 'NoSuchColumn: byte 7: there is no column "B": the table has A'),
+            (f"'{path}', 'SELECT A FROM T LIMIT 1'", "Syntax: byte 16: there is no LIMIT: pipe the answer through head"),
+            (f"'{__file__}'", "BadMagic: this is a text file, not a lanes file"),
             (f"'{path}', 'SELECT A,A FROM T GROUP BY A'", "duplicate column"),
         ]:
             found = outcome(base, f"CREATE VIRTUAL TABLE temp.x USING lanes({words})")

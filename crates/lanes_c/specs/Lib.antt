@@ -18,6 +18,7 @@ pub mod PartsHandles
 pub mod PartsRead
 pub mod Queries
 pub mod Rooms
+pub mod Sentences
 pub mod Spreading
 pub mod TableChanges
 pub mod TableReading

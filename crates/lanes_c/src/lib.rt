@@ -26,7 +26,9 @@ mod parts_reading;
 mod parts_turns;
 mod queries;
 mod reading;
+mod refused_rows;
 mod room;
+mod sentences;
 mod shared;
 mod spreading;
 mod table_changes;
@@ -55,6 +57,7 @@ pub use parts_reading::{lanes_parts_close, lanes_parts_open, lanes_parts_take};
 pub use parts_turns::{lanes_folder_part, lanes_parts_forget, lanes_parts_pack};
 pub use queries::lanes_queries;
 pub use reading::{lanes_check, lanes_dump, lanes_query};
+pub use sentences::{Refused, lanes_explain};
 pub use spreading::lanes_spread;
 pub use table_changes::{
     lanes_table_apply, lanes_table_delete, lanes_table_delete_rows, lanes_table_forget,

@@ -177,7 +177,7 @@ fn own_refusal(number: u8, place: Place) -> Option<CommandRefusal>
 
 /// The refusal that a number and a place are: that of the fault of which they were told. None if the number has none, and of a
 /// closed handle.
-fn command_refusal(number: u8, place: Place) -> Option<CommandRefusal>
+pub(crate) fn command_refusal(number: u8, place: Place) -> Option<CommandRefusal>
     ensures same { result ≡ command_refusal_at number place }
     ensures again { SaysAgain number place result }
     ensures none { (number ≡ 0) ⊎ (43 < number) → result ≡ None }
@@ -189,7 +189,7 @@ fn command_refusal(number: u8, place: Place) -> Option<CommandRefusal>
 }
 
 /// What is known of a refusal in addition: the line of one that is too long.
-fn known_of<'a>(refusal: CommandRefusal, place: Place) -> Knowledge<'a> {
+pub(crate) fn known_of<'a>(refusal: CommandRefusal, place: Place) -> Knowledge<'a> {
     if refusal == CommandRefusal::Named(Refusal::LineTooLong) && place.first != 0 {
         Knowledge::Line(place.first)
     } else {
@@ -198,7 +198,7 @@ fn known_of<'a>(refusal: CommandRefusal, place: Place) -> Knowledge<'a> {
 }
 
 /// The sentence of a closed handle and of each fault of a folder.
-fn own_sentence(number: u8) -> Option<&'static str>
+pub(crate) fn own_sentence(number: u8) -> Option<&'static str>
     ensures some { IfSome result (λ sentence. (sentence.now ≡ own_sentence number) × ((number ≡ 39) ⊎ ((43 < number) × (number < 47)))) }
     ensures none { IfNone result ((number ≡ 39 → ⊥) × ((43 < number) × (number < 47) → ⊥)) }
 {
