@@ -21,9 +21,14 @@ typedef struct {
 
 static const type types[] = {{"TINYINT", 1, "c"}, {"SMALLINT", 2, "s"}, {"INTEGER", 4, "i"}, {"BIGINT", 8, "l"}};
 
+/* The types of answers' columns that have no word: sums of more than 64 bits, and means. */
+static const type sums = {"", 16, "d:38,0"}, means = {"", 16, "d:38,6"};
+
+/* A column. Its numbers are the block's, or, if they have 16 bytes each, its own. */
 typedef struct {
     char *name;
     const type *kind;
+    uint64_t *wide;
 } column;
 
 typedef struct {
@@ -126,7 +131,8 @@ static size_t ones(const uint8_t *bits, size_t count) {
 }
 
 /* Makes the array of a column's rows. Answers 0 if there is no memory for it. */
-static int fill_column(struct ArrowArray *array, const lanes_arrow_block *block, size_t c, const type *kind, size_t first, size_t count) {
+static int fill_column(struct ArrowArray *array, const lanes_arrow_block *block, size_t c, const column *from, size_t first, size_t count) {
+    const type *kind = from->kind;
     const uint8_t *bits = block->valid + c * block->stride + first / 8;
     size_t nulls = block->nulls[c] ? count - ones(bits, count) : 0;
     *array = (struct ArrowArray){.length = (int64_t)count, .null_count = (int64_t)nulls, .n_buffers = 2, .release = release_array};
@@ -140,7 +146,8 @@ static int fill_column(struct ArrowArray *array, const lanes_arrow_block *block,
     }
     void *values = aligned(count * kind->bytes);
     if (!values) return 0;
-    narrow(block->values + c * block->rows + first, count, kind->bytes, values);
+    if (from->wide) memcpy(values, from->wide + 2 * first, count * kind->bytes);
+    else narrow(block->values + c * block->rows + first, count, kind->bytes, values);
     array->buffers[1] = values;
     return 1;
 }
@@ -158,7 +165,7 @@ static int get_next(struct ArrowArrayStream *stream, struct ArrowArray *out) {
     int is_whole = out->buffers && out->children;
     for (size_t c = 0; is_whole && c < block->columns; c++) {
         out->children[c] = malloc(sizeof *out->children[c]);
-        is_whole = out->children[c] && fill_column(out->children[c], block, c, from->columns[c].kind, from->at, count);
+        is_whole = out->children[c] && fill_column(out->children[c], block, c, from->columns + c, from->at, count);
     }
     if (is_whole) {
         from->at += count;
@@ -172,7 +179,10 @@ static int get_next(struct ArrowArrayStream *stream, struct ArrowArray *out) {
 static const char *get_last_error(struct ArrowArrayStream *stream) { return ((source *)stream->private_data)->fault; }
 
 static void free_columns(column *columns, size_t count) {
-    for (size_t c = 0; columns && c < count; c++) free(columns[c].name);
+    for (size_t c = 0; columns && c < count; c++) {
+        free(columns[c].name);
+        free(columns[c].wide);
+    }
     free(columns);
 }
 
@@ -215,18 +225,85 @@ static int read_columns(const char *schema, size_t schema_length, size_t count, 
     return at == end ? 0 : EINVAL;
 }
 
-int lanes_arrow_stream(lanes_arrow_block *block, const char *schema, size_t schema_length, struct ArrowArrayStream *stream) {
-    source *from = calloc(1, sizeof *from);
-    column *columns = calloc(block->columns ? block->columns : 1, sizeof *columns);
-    int fault = from && columns ? read_columns(schema, schema_length, block->columns, columns) : ENOMEM;
+/* Makes the stream of a block and its columns, or frees them, if there was a fault. Answers the fault. */
+static int make_stream(int fault, source *from, lanes_arrow_block *block, column *columns, struct ArrowArrayStream *stream) {
     if (fault) {
-        free_columns(columns, block->columns);
+        free_columns(columns, block ? block->columns : 0);
         free(from);
         return fault;
     }
     *from = (source){.block = block, .columns = columns};
     *stream = (struct ArrowArrayStream){get_schema, get_next, get_last_error, release_stream, from};
     return 0;
+}
+
+int lanes_arrow_stream(lanes_arrow_block *block, const char *schema, size_t schema_length, struct ArrowArrayStream *stream) {
+    source *from = calloc(1, sizeof *from);
+    column *columns = calloc(block->columns ? block->columns : 1, sizeof *columns);
+    int fault = from && columns ? read_columns(schema, schema_length, block->columns, columns) : ENOMEM;
+    return make_stream(fault, from, block, columns, stream);
+}
+
+/* Answers. */
+
+/* Whether a number in two words, the low one first, has at most 38 digits: it is between -10^38 and 10^38. */
+static int is_decimal(const uint64_t *words) {
+    const int64_t high = (int64_t)words[1], most = 0x4B3B4CA85A86C47A;
+    const uint64_t low = words[0], rest = 0x098A224000000000;
+    return (high < most || (high == most && low < rest)) && (high > ~most || (high == ~most && low > 0 - rest));
+}
+
+/* Writes numbers of 8 bytes each in two words, the low one first. */
+static void widen(const int64_t *numbers, size_t count, uint64_t *words) {
+    for (size_t i = 0; i < count; i++) {
+        words[2 * i] = (uint64_t)numbers[i];
+        words[2 * i + 1] = numbers[i] < 0 ? UINT64_MAX : 0;
+    }
+}
+
+/* Writes bits that are 1 at the marks that aren't 0. Answers how many are 0. */
+static size_t pack(const uint8_t *marks, size_t count, uint8_t *bits) {
+    size_t nulls = 0;
+    for (size_t i = 0; i < count; i++) {
+        if (marks[i]) bits[i / 8] |= (uint8_t)(1 << i % 8);
+        else nulls++;
+    }
+    return nulls;
+}
+
+/* Copies a column of an answer: 0, ENOMEM or ERANGE. */
+static int copy_column(const lanes_arrow_column *given, lanes_arrow_block *block, size_t c, column *made) {
+    const size_t rows = block->rows;
+    made->kind = given->is_mean ? &means : given->is_wide ? &sums : types + 3;
+    made->name = strdup(given->name);
+    if (!made->name) return ENOMEM;
+    block->nulls[c] = pack(given->marks, rows, block->valid + c * block->stride);
+    if (made->kind->bytes == sizeof(int64_t)) {
+        memcpy(block->values + c * rows, given->numbers, rows * sizeof(int64_t));
+        return 0;
+    }
+    made->wide = rows > PTRDIFF_MAX / made->kind->bytes ? NULL : aligned(rows * made->kind->bytes);
+    if (!made->wide) return ENOMEM;
+    if (!given->is_wide) {
+        widen(given->numbers, rows, made->wide);
+        return 0;
+    }
+    memcpy(made->wide, given->numbers, rows * made->kind->bytes);
+    for (size_t i = 0; i < rows; i++)
+        if (!is_decimal(made->wide + 2 * i)) return ERANGE;
+    return 0;
+}
+
+int lanes_arrow_answer(size_t rows, size_t columns, const lanes_arrow_column *given, struct ArrowArrayStream *stream) {
+    source *from = calloc(1, sizeof *from);
+    column *made = calloc(columns ? columns : 1, sizeof *made);
+    lanes_arrow_block *block = lanes_arrow_room(rows, columns);
+    int fault = from && made && block ? 0 : ENOMEM;
+    if (block) memset(block->valid, 0, block->stride * columns);
+    for (size_t c = 0; !fault && c < columns; c++) fault = copy_column(given + c, block, c, made + c);
+    fault = make_stream(fault, from, block, made, stream);
+    if (fault) lanes_arrow_free(block);
+    return fault;
 }
 
 /* Python's own, in whose processes alone the next function is used. */

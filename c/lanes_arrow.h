@@ -1,4 +1,4 @@
-/* lanes_arrow.h: columns that lanes_columns reads, as Arrow's C stream.
+/* lanes_arrow.h: columns that lanes_columns reads, and those of answers, as Arrow's C stream.
  *
  * A program asks lanes_columns how many rows there are, makes a block for them, has lanes_columns read into it, and makes a stream of it:
  *
@@ -91,6 +91,21 @@ void lanes_arrow_free(lanes_arrow_block *block);
  * Answers 0, and the block is the stream's; or EINVAL if the schema has another number of columns, or ENOMEM, and the block is still the
  * caller's. */
 int lanes_arrow_stream(lanes_arrow_block *block, const char *schema, size_t schema_length, struct ArrowArrayStream *stream);
+
+/* A column of an answer, as lanes_answer_numbers or lanes_answer_wide has written it. */
+typedef struct lanes_arrow_column {
+    const char *name;     /* the heading, UTF-8, with a byte 0 at its end */
+    int is_mean;          /* whether the numbers are millionths: the column's kind is LANES_MEANS */
+    int is_wide;          /* whether each number has 16 bytes, as lanes_answer_wide writes them, and not 8 */
+    const void *numbers;  /* the numbers */
+    const uint8_t *marks; /* the marks */
+} lanes_arrow_column;
+
+/* Makes a stream of the columns of an answer, which it copies: the answer and the arrays may go. Whole numbers are int64, or
+ * decimal128(38, 0) if they are wide; means are decimal128(38, 6). Each column may be null.
+ *
+ * Answers 0; ENOMEM; or ERANGE if a number has more than 38 digits. */
+int lanes_arrow_answer(size_t rows, size_t columns, const lanes_arrow_column *given, struct ArrowArrayStream *stream);
 
 /* The destructor of a capsule of Python that has a stream from malloc: it releases the stream if nobody took it, and frees it. It is used in a
  * process of Python alone. */

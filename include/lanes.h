@@ -330,6 +330,73 @@ uint8_t lanes_inspect_partial(const uint8_t *partial, size_t partial_length, uin
 uint8_t lanes_inspect_summary(const uint8_t *summary, size_t summary_length, uint8_t format, uint8_t *out, size_t room, size_t *length,
                               lanes_place *place);
 
+/* An answer that the library keeps, to be read by columns. It starts as LANES_NO_ANSWER, and is like a handle of a table: don't copy it, give
+ * it to one call at a time, and close it. Leave it on its thread.
+ *
+ *     lanes_answer answer = LANES_NO_ANSWER;
+ *     number = lanes_answer_ask(&table, sql, sql_length, &answer, &place);
+ *     size_t rows = lanes_answer_rows(&answer), columns = lanes_answer_columns(&answer);
+ *     for each column c, with room for as many numbers and marks as there are rows:
+ *         if (!lanes_answer_numbers(&answer, c, numbers, rows, marks, rows)) lanes_answer_wide(&answer, c, wide, rows, marks, rows);
+ *     lanes_answer_close(&answer); */
+typedef struct lanes_answer {
+    void *kept;
+} lanes_answer;
+
+/* A handle without an answer. */
+#ifdef __cplusplus
+#define LANES_NO_ANSWER (lanes_answer{})
+#else
+#define LANES_NO_ANSWER ((lanes_answer){NULL})
+#endif
+
+/* Answers a query over the file that a handle is of, and keeps the answer. What the answer's handle had is closed when 0 is answered;
+ * otherwise it is as it was.
+ *
+ * Refused: what lanes_ask refuses. */
+uint8_t lanes_answer_ask(lanes_table *table, const uint8_t *sql, size_t sql_length, lanes_answer *answer, lanes_place *place);
+
+/* Answers the query that a partial answer is of, and keeps the answer, as lanes_answer_ask.
+ *
+ * Refused: what lanes_finish refuses. */
+uint8_t lanes_answer_finish(const uint8_t *partial, size_t partial_length, lanes_answer *answer, lanes_place *place);
+
+/* Answers how many columns an answer has, one for each item of the query's select list: 0 when the handle is closed. */
+size_t lanes_answer_columns(lanes_answer *answer);
+
+/* Answers how many rows an answer has: 0 when the handle is closed. They are in the order of lanes_ask. */
+size_t lanes_answer_rows(lanes_answer *answer);
+
+/* Gives the heading of a column, without a byte 0 at its end, and answers how many bytes it has: 0 when there is no such column, or the
+ * handle is closed. It is written if it fits. Columns are counted from 0. */
+size_t lanes_answer_heading(lanes_answer *answer, size_t column, uint8_t *out, size_t room);
+
+/* The kinds of columns of answers. */
+enum { LANES_NO_VALUE = 0, LANES_WHOLE = 1, LANES_MEANS = 2 };
+
+/* Answers the kind of a column: LANES_WHOLE if it has whole numbers, LANES_MEANS if it has means, and LANES_NO_VALUE if all its fields are
+ * null, if there is no such column, or if the handle is closed. */
+uint8_t lanes_answer_kind(lanes_answer *answer, size_t column);
+
+/* Gives the numbers of a column: of a whole number itself, of a mean its millionths, and 0 at a null. marks[i] is 1 if row i has a value, and
+ * 0 if it is null. Both rooms are counted in numbers; the arrays are never null, and overlap nothing.
+ *
+ * Answers whether they are written: they are if both arrays have room for all rows, and if no number has more than 64 bits. The rest of
+ * the arrays is unchanged. False when the handle is closed. */
+bool lanes_answer_numbers(lanes_answer *answer, size_t column, int64_t *numbers, size_t numbers_room, uint8_t *marks, size_t marks_room);
+
+/* A number of 128 bits in two words: 2^64 * high + low. */
+typedef struct lanes_wide {
+    uint64_t low;
+    int64_t high;
+} lanes_wide;
+
+/* The same in two words, in which each number has room. So false means that an array is too short, or that the handle is closed. */
+bool lanes_answer_wide(lanes_answer *answer, size_t column, lanes_wide *numbers, size_t numbers_room, uint8_t *marks, size_t marks_room);
+
+/* Closes the handle of an answer. Closing a closed one does nothing. */
+void lanes_answer_close(lanes_answer *answer);
+
 /* Gives the cells of columns at the live rows at which a condition is true, in order of row name: the rows of lanes_dump.
  *
  * names: the columns' names with one space between, in the order that is wanted; of length 0: all, in the table's order.

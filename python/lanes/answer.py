@@ -3,12 +3,18 @@
 from __future__ import annotations
 
 import functools
-import re
 from decimal import Decimal
-from typing import Any, ClassVar, Iterable, List, Optional, Tuple, Type, Union
+from typing import TYPE_CHECKING, Any, ClassVar, Dict, Iterable, Iterator, List, Optional, Sequence, Tuple, Type, Union, overload
 
-#: A field: a whole number, a mean, or None for a null.
-Value = Optional[Union[int, Decimal]]
+from . import answer_columns
+from .answer_columns import AnswerColumn, Value
+from .streams import ArrowStream
+
+if TYPE_CHECKING:
+    from . import calls
+    from .columns import ColumnData
+
+__all__ = ["Answer", "Row", "Value"]
 
 #: How many rows a notebook shows.
 _SHOWN = 60
@@ -46,18 +52,34 @@ def _row(headings: Tuple[str, ...], fields: Tuple[Value, ...]) -> Row:
     return _kind(headings)(fields)
 
 
-class Answer(List[Row]):
-    """The rows of an answer, in order, as a list of tuples, each of which has the headings as its `_fields`.
+class Answer(Sequence[Row]):
+    """The rows of an answer, in order: a sequence of tuples, each of which has the headings as its `_fields`.
 
-    A whole number is an int, a mean a `decimal.Decimal` of six decimals, and a null None. Two answers are equal if they have the same
-    headings and rows; a list is equal that has the same rows.
+    A whole number is an int, a mean a `decimal.Decimal` of six decimals, and a null None. The rows are made when they are asked for the first
+    time. `to_pandas`, `to_numpy` and Arrow's stream are made of columns, and not of rows.
+
+    An answer never changes; `list(answer)` is a list of its rows. A part of it, as `answer[:3]`, is an answer. Two answers are equal if they
+    have the same headings and rows; a list is equal that has the same rows.
     """
 
     def __init__(self, headings: list[str], rows: Iterable[Tuple[Value, ...]], sql: str = "") -> None:
-        super().__init__(map(_kind(tuple(headings)), rows))
         #: The headings, one for each field of a row, as the query has them.
         self.headings: list[str] = headings
+        self._rows: Optional[List[Row]] = list(map(_kind(tuple(headings)), rows))
+        self._columns: Optional[List[AnswerColumn]] = None
         self._sql = sql
+
+    @classmethod
+    def of_columns(cls, columns: List[AnswerColumn], sql: str = "") -> Answer:
+        """The answer of a query that has these columns."""
+        answer = cls([column.heading for column in columns], (), sql)
+        answer._rows, answer._columns = None, columns
+        return answer
+
+    @classmethod
+    def of_kept(cls, kept: calls.Kept, sql: str) -> Answer:
+        """The answer of a query that the library keeps."""
+        return cls.of_columns(answer_columns.of_kept(kept, sql), sql)
 
     @classmethod
     def from_text(cls, text: str, sql: str = "") -> Answer:
@@ -65,30 +87,86 @@ class Answer(List[Row]):
         headings, *lines = text.split("\n")[:-1]
         return cls(headings.split(","), map(_fields_of, lines), sql)
 
+    # ---- as a sequence of rows
+
+    def _made(self) -> List[Row]:
+        """The rows."""
+        if self._rows is None:
+            self._rows = list(map(_kind(tuple(self.headings)), zip(*(column.values() for column in self._held()))))
+        return self._rows
+
+    def _held(self) -> List[AnswerColumn]:
+        """The columns."""
+        if self._columns is None:
+            means = answer_columns.means_of(self._sql, len(self.headings))
+            rows = self._made()
+            self._columns = [
+                answer_columns.of_values(heading, [row[at] for row in rows], is_mean)
+                for at, (heading, is_mean) in enumerate(zip(self.headings, means))
+            ]
+        return self._columns
+
+    def __len__(self) -> int:
+        return len(self._held()[0].marks) if self._rows is None else len(self._rows)
+
+    def __iter__(self) -> Iterator[Row]:
+        return iter(self._made())
+
+    @overload
+    def __getitem__(self, at: int) -> Row: ...
+
+    @overload
+    def __getitem__(self, at: slice) -> Answer: ...
+
+    def __getitem__(self, at: Union[int, slice]) -> Union[Row, Answer]:
+        if not isinstance(at, slice):
+            return self._made()[at]
+        first, last, step = at.indices(len(self))
+        if self._rows is None and step == 1:
+            return type(self).of_columns([column.cut(first, max(first, last)) for column in self._held()], self._sql)
+        return type(self)(self.headings, self._made()[at], self._sql)
+
     def __eq__(self, other: object) -> bool:
-        if isinstance(other, Answer) and self.headings != other.headings:
-            return False
-        return list.__eq__(self, other)
+        if isinstance(other, Answer):
+            return self.headings == other.headings and self._made() == other._made()
+        return isinstance(other, list) and self._made() == other
 
-    def __ne__(self, other: object) -> bool:
-        return not self == other
+    __hash__ = None  # type: ignore[assignment]  # as a list
 
-    __hash__ = None  # as a list
+    # ---- as columns
 
     def columns(self) -> dict[str, list[Value]]:
         """The fields of each column, by its heading. Of headings that are the same the last one stays: give them other names by AS."""
-        return {heading: [row[at] for row in self] for at, heading in enumerate(self.headings)}
+        if self._rows is None:
+            return {column.heading: column.values() for column in self._held()}
+        return {heading: [row[at] for row in self._rows] for at, heading in enumerate(self.headings)}
+
+    def to_numpy(self) -> Dict[str, ColumnData]:
+        """The columns as arrays of numpy, by their headings: of each its values, and which rows are null, as of `Table.to_numpy`. Whole numbers
+        are int64, or Python's own if one has more than 64 bits; means are float64, each the nearest one. Of headings that are the same the
+        last one stays."""
+        return {column.heading: column.array() for column in self._held()}
 
     def to_pandas(self) -> Any:
         """A frame of pandas under the same headings: whole numbers as Int64, or as Python's own if one has more than 64 bits; means as
         Float64, also if all are null, which is no longer exact."""
-        import pandas as pd
+        return answer_columns.frame(self._held())
 
-        means = _means(self._sql, len(self.headings))
-        series = [pd.Series(_pandas([row[at] for row in self], is_mean)) for at, is_mean in enumerate(means)]
-        frame = pd.concat(series, axis=1)
-        frame.columns = pd.Index(self.headings)
-        return frame
+    if TYPE_CHECKING:
+
+        def __arrow_c_stream__(self, requested_schema: object = None) -> object:
+            """The rows for whatever takes Arrow, as pyarrow.table, polars.DataFrame and duckdb. Whole numbers are int64, or decimal128(38, 0)
+            if one has more than 64 bits; means are decimal128(38, 6). Nothing is rounded. Each column may be null. A schema that is asked
+            for is passed over. The call is there if the module was installed with a C compiler.
+
+            Raises:
+                ValueError: a number has more than 38 digits.
+            """
+
+    else:
+        __arrow_c_stream__ = ArrowStream()
+
+    # ---- as it is shown and sent
 
     def _repr_html_(self) -> str:
         """The answer for a notebook: its first rows."""
@@ -98,7 +176,9 @@ class Answer(List[Row]):
         return f"<table><tr>{head}</tr>{rows}</table>{more}"
 
     def __reduce__(self) -> tuple[object, ...]:
-        return type(self), (self.headings, [tuple(row) for row in self], self._sql)
+        if self._rows is None:
+            return type(self).of_columns, (self._columns, self._sql)
+        return type(self), (self.headings, [tuple(row) for row in self._rows], self._sql)
 
     def __repr__(self) -> str:
         """All rows if they have room in a line, and otherwise how many there are."""
@@ -128,24 +208,3 @@ def _value(field: str) -> Value:
 
 def _cell(field: Value) -> str:
     return "<td><i>NULL</i></td>" if field is None else f"<td>{field}</td>"
-
-
-def _means(sql: str, count: int) -> list[bool]:
-    """Which fields of a query's answer are means, by its text, which was taken already: its keywords are nowhere else."""
-    items = re.match(r"\s*SELECT\b(.*?)\bFROM\b", sql, re.ASCII | re.IGNORECASE | re.DOTALL)
-    found = [re.match(r"\s*AVG\s*\(", item, re.ASCII | re.IGNORECASE) is not None for item in items[1].split(",")] if items else []
-    return found if len(found) == count else [False] * count
-
-
-def _pandas(fields: list[Value], is_mean: bool) -> Any:
-    """A column of an answer as an array of pandas."""
-    import numpy as np
-    import pandas as pd
-
-    nulls = np.array([field is None for field in fields], bool)
-    if is_mean or any(isinstance(field, Decimal) for field in fields):
-        return pd.arrays.FloatingArray(np.array([0.0 if field is None else float(field) for field in fields]), nulls)
-    whole = [0 if field is None else int(field) for field in fields]
-    if all(-(1 << 63) <= field < 1 << 63 for field in whole):
-        return pd.arrays.IntegerArray(np.array(whole, np.int64), nulls)
-    return pd.array([None if field is None else int(field) for field in fields], object)

@@ -1,12 +1,14 @@
-"""Tables as Arrow's C stream, by the shim of c/lanes_arrow.h: whoever takes Arrow takes a table."""
+"""Tables and answers as Arrow's C stream, by the shim of c/lanes_arrow.h: whoever takes Arrow takes them."""
 
 from __future__ import annotations
 
 import ctypes
+import errno
 import functools
 from typing import TYPE_CHECKING, Any, Dict, Union
 
-from . import arrow_reading, calls
+from . import answer_columns, arrow_reading, calls
+from .answer import Answer
 from .columns import BITS, Selection
 from .library import load_shim
 from .table import Table
@@ -35,6 +37,18 @@ class _Block(ctypes.Structure):
     ]
 
 
+class _Column(ctypes.Structure):
+    """`lanes_arrow_column`."""
+
+    _fields_ = [
+        ("name", ctypes.c_char_p),
+        ("is_mean", ctypes.c_int),
+        ("is_wide", ctypes.c_int),
+        ("numbers", ctypes.c_void_p),
+        ("marks", ctypes.c_void_p),
+    ]
+
+
 #: A prototype of this module's own: what another module says of ctypes.pythonapi.PyCapsule_New doesn't matter here.
 _NEW = ctypes.PYFUNCTYPE(ctypes.py_object, ctypes.c_void_p, ctypes.c_char_p, ctypes.c_void_p)(("PyCapsule_New", ctypes.pythonapi))
 
@@ -51,6 +65,8 @@ def _shim() -> Any:
     shim.lanes_arrow_free.argtypes, shim.lanes_arrow_free.restype = [ctypes.POINTER(_Block)], None
     shim.lanes_arrow_stream.argtypes = [ctypes.POINTER(_Block), ctypes.c_char_p, ctypes.c_size_t, ctypes.c_void_p]
     shim.lanes_arrow_stream.restype = ctypes.c_int
+    shim.lanes_arrow_answer.argtypes = [ctypes.c_size_t, ctypes.c_size_t, ctypes.POINTER(_Column), ctypes.c_void_p]
+    shim.lanes_arrow_answer.restype = ctypes.c_int
     return shim
 
 
@@ -64,13 +80,40 @@ def has_shim() -> bool:
     return True
 
 
-def stream_of(owner: Union[Table, Folder], requested_schema: object = None) -> Any:
-    """The live rows of a table or of a folder as a capsule `arrow_array_stream`. It owns its memory, and is released with the capsule if nobody takes it.
+def stream_of(owner: Union[Table, Folder, Answer], requested_schema: object = None) -> Any:
+    """The live rows of a table or of a folder, or the rows of an answer, as a capsule `arrow_array_stream`. It owns its memory, and is released
+    with the capsule if nobody takes it.
 
     Raises:
         OutOfMemory: there is no memory for the columns.
-        ValueError: another schema is asked for than one of these columns as wider integers.
+        ValueError: of a table another schema is asked for than one of these columns as wider integers; or a number of an answer has more than
+            38 digits.
     """
+    return _of_answer(owner) if isinstance(owner, Answer) else _of_table(owner, requested_schema)
+
+
+def _of_answer(answer: Answer) -> Any:
+    """The rows of an answer. A schema that is asked for is passed over: who takes the stream casts it."""
+    shim, columns = _shim(), answer._held()
+    given, kept = (_Column * len(columns))(), []
+    for at, column in enumerate(columns):
+        rooms = [(ctypes.c_char * max(len(room), 1)).from_buffer(room if room else bytearray(1)) for room in (column.numbers, column.marks)]
+        kept.append(rooms)
+        is_wide = column.size == answer_columns.WIDE
+        given[at] = _Column(column.heading.encode(), column.is_mean, is_wide, *map(ctypes.addressof, rooms))
+    stream = _LIBC.malloc(_STREAM)
+    fault = shim.lanes_arrow_answer(len(answer), len(columns), given, stream) if stream else errno.ENOMEM
+    if fault:
+        _LIBC.free(stream)
+    if fault == errno.ERANGE:
+        raise ValueError("a number has more than 38 digits, which Arrow's decimal128 does not have")
+    if fault:
+        raise calls.refused(calls.MEMORY, sentence="there is no memory for the stream")
+    return _NEW(stream, b"arrow_array_stream", ctypes.cast(shim.lanes_arrow_capsule_gone, ctypes.c_void_p))
+
+
+def _of_table(owner: Union[Table, Folder], requested_schema: object) -> Any:
+    """The live rows of a table or of a folder."""
     shim = _shim()
     table = owner if isinstance(owner, Table) else owner.read()
     kinds = table.columns if requested_schema is None else _requested(table, requested_schema)

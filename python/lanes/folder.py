@@ -14,7 +14,8 @@ from .column_types import ColumnTypes
 from .errors import Busy, Damaged, Refused
 from .holdings import Holdings
 from .partial_answers import Partial
-from .table import ArrowStream, Csv, Table
+from .streams import ArrowStream
+from .table import Csv, Table
 from .waiting import Wait
 
 if TYPE_CHECKING:

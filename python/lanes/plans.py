@@ -108,10 +108,9 @@ def finish(partial: _Bytes, expect: Iterable[_Bytes] = ()) -> Answer:
     """
     given = Partial(arguments.bytes_of("partial", partial))
     expected = [arguments.bytes_of("expect", summary) for summary in arguments.several("expect", "several summaries", expect)]
-    room = _ROOM + calls.FIELD * len(given)
     if not expected:
-        return Answer.from_text(calls.given(calls.FINISH, room, given, 0).decode(), given.query)
-    lengths = (ctypes.c_size_t * len(expected))(*map(len, expected))
+        return Answer.of_kept(calls.Kept.of_partial(given), given.query)
+    lengths, room = (ctypes.c_size_t * len(expected))(*map(len, expected)), _ROOM + calls.FIELD * len(given)
     try:
         text = calls.given(calls.FINISH_EXPECTED, room, given, b"".join(expected), ctypes.addressof(lengths), len(expected), 0).decode()
     except Refused as refusal:

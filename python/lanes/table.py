@@ -18,6 +18,7 @@ from .batch_name import BatchName, GivenName, name_of
 from .column_types import TYPES, ColumnTypes, holding, type_of
 from .errors import Refused
 from .partial_answers import Partial
+from .streams import ArrowStream
 
 if TYPE_CHECKING:
     from .columns import Columns
@@ -83,17 +84,6 @@ def _word(file: bytes, at: int) -> tuple[str, int]:
     """The name at a place of a file, and the place after it."""
     end = at + 1 + file[at]
     return file[at + 1 : end].decode(), end
-
-
-class ArrowStream:
-    """`__arrow_c_stream__` of a table or a folder, which there is if the shim for Arrow is there or can be built."""
-
-    def __get__(self, owner: Union[Table, Folder, None], _: object = None) -> Any:
-        from .arrow import has_shim, stream_of
-
-        if not has_shim():
-            raise AttributeError("__arrow_c_stream__: there is no shim for Arrow, since lanes was installed without a C compiler")
-        return self if owner is None else functools.partial(stream_of, owner)
 
 
 class Table:
@@ -307,7 +297,7 @@ class Table:
         text = arguments.text_of("sql", sql)
         opened = self._asked()
         with explaining.explained(self, calls.Given(calls.QUERY, text)):
-            return Answer.from_text(opened.ask(text).decode(), sql)
+            return Answer.of_kept(opened.answer(text), sql)
 
     def partial(self, sql: str) -> Partial:
         """What this table gives to the answer of a query over several tables, for `lanes.combine` and `lanes.finish`.

@@ -75,9 +75,9 @@ class Queries(unittest.TestCase):
         sql = "SELECT A,COUNT(*),COUNT(DISTINCT A) FROM T GROUP BY A"
         wanted = [(n, 1, 1) for n in range(20_000)]
         for name, act, answer in [
-            ("_ASK", lambda: table.query(sql), wanted),
+            ("_ANSWER_ASK", lambda: table.query(sql), wanted),
             ("_PARTIAL", lambda: lanes.finish(table.partial(sql)), wanted),
-            ("FINISH", lambda: lanes.finish(table.partial(sql)), wanted),
+            ("_ANSWER_FINISH", lambda: lanes.finish(table.partial(sql)), wanted),
             ("DUMP", table.dump, "A\n" + rows),
             ("DUMP", lambda: table.dump(names=True), "BATCH,ORDINAL,A\n" + "".join(f"1.1,{n},{n}\n" for n in range(20_000))),
         ]:
@@ -86,7 +86,7 @@ class Queries(unittest.TestCase):
                 self.assertEqual(act(), answer)
                 self.assertEqual(made.call_count, 1)
 
-    def test_an_answer_comes_though_memory_is_limited(self) -> None:
+    def test_a_dump_comes_though_memory_is_limited(self) -> None:
         table = Table.create("T", {"A": "INTEGER"}).import_csv("".join(f"{n}\n" for n in range(20_000)), heading=False, batch=(1, 1))
         taken = mmap.mmap
 
@@ -98,10 +98,39 @@ class Queries(unittest.TestCase):
         for most in 1_000_000, 500_000, 100_000:
             with unittest.mock.patch.object(calls.mmap, "mmap", limited):
                 if most > 200_000:
-                    self.assertEqual(len(table.query("SELECT A,COUNT(*) FROM T GROUP BY A")), 20_000)
+                    self.assertEqual(len(table.dump().splitlines()), 20_001)
                     continue
                 with self.assertRaises(lanes.OutOfMemory):
-                    table.query("SELECT A,COUNT(*) FROM T GROUP BY A")
+                    table.dump()
+
+    def test_an_answer_without_memory_for_its_columns_is_refused(self) -> None:
+        table = counts(FIRST)
+        for name in "SELECT SITE FROM COUNTS GROUP BY SITE", "SELECT COUNT(*) FROM COUNTS":
+            with unittest.mock.patch.object(lanes.answer_columns, "bytearray", unittest.mock.Mock(side_effect=MemoryError), create=True):
+                with self.assertRaises(lanes.OutOfMemory):
+                    table.query(name)
+
+    def test_a_part_of_an_answer_is_an_answer(self) -> None:
+        table = counts(FIRST, SECOND)
+        sql = "SELECT SITE,SUM(HITS) AS S,AVG(HITS) FROM COUNTS GROUP BY SITE"
+        rows = [(1, 47, Decimal("15.666666")), (2, None, None), (3, 20, Decimal("20"))]
+        for of in slice(0, 2), slice(1, None), slice(None, None, -1), slice(-1, None), slice(5, 9), slice(2, 1), slice(None):
+            for answer in table.query(sql), lanes.Answer(["SITE", "S", "AVG(HITS)"], rows, sql):
+                part = answer[of]
+                self.assertIsInstance(part, lanes.Answer)
+                self.assertEqual((list(part), part.headings, len(part)), (rows[of], ["SITE", "S", "AVG(HITS)"], len(rows[of])))
+        answer = table.query(sql)
+        self.assertEqual((answer[-1], answer.index(rows[1]), rows[2] in answer, list(reversed(answer))), (rows[2], 1, True, rows[::-1]))
+        with self.assertRaises(IndexError):
+            answer[3]
+
+    def test_sums_past_64_bits_are_whole(self) -> None:
+        big = (1 << 63) - 1
+        for values in [big, big], [-big - 1, -1], [big, 1], [-big - 1], [big], [-big - 1] * 3, [0]:
+            text = "".join(f"{value}\n" for value in values)
+            table = Table.create("T", {"A": "BIGINT"}).import_csv(text, heading=False, batch="1.1")
+            self.assertEqual(table.query("SELECT SUM(A),MIN(A) FROM T"), [(sum(values), min(values))])
+            self.assertEqual(lanes.finish(table.partial("SELECT SUM(A) FROM T")), [(sum(values),)])
 
     def test_an_answer_is_pickled(self) -> None:
         answer = counts(FIRST).query("SELECT SITE,AVG(HITS) FROM COUNTS GROUP BY SITE")
@@ -175,7 +204,7 @@ class Queries(unittest.TestCase):
         opened = Opened.of_file(counts(FIRST).to_bytes())
         opened.__del__()
         with self.assertRaises(Refused) as caught:
-            opened.ask(b"SELECT SUM(HITS) FROM COUNTS")
+            opened.answer(b"SELECT SUM(HITS) FROM COUNTS")
         self.assertEqual((caught.exception.number, caught.exception.name, caught.exception.place), (39, "NotOpen", ()))
 
 

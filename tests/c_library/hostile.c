@@ -138,8 +138,24 @@ static uint8_t inspects(const uint8_t *file, size_t file_length, const uint8_t *
     return refused;
 }
 
-static call_on_two *const CALLS[] = {checks, dumps, summarizes, creates, imports, lanes_query, lanes_delete, lanes_offer, lanes_apply, lanes_merge, answers_all, forgets, tells_schema, gives_columns, changes_by_import, changes_by_delete, changes_by_offer, inspects, changes_by_columns};
-static const char *const NAMES[] = {"check", "dump", "summary", "create", "import", "query", "delete", "offer", "apply", "merge", "queries", "forget", "schema", "columns", "table_import", "table_delete", "table_apply", "inspect", "table_import_columns"};
+/* An answer by columns; the room is that of a column's marks, and the length is what they need of it. */
+static uint8_t answers_by_columns(const uint8_t *file, size_t file_length, const uint8_t *other, size_t other_length, uint8_t *out, size_t room,
+                                  size_t *length, lanes_place *place) {
+    lanes_table table = LANES_CLOSED;
+    lanes_answer answer = LANES_NO_ANSWER;
+    uint8_t refused = lanes_open(file, file_length, &table, place);
+    if (refused == LANES_OK) refused = lanes_answer_ask(&table, other, other_length, &answer, place);
+    lanes_close(&table);
+    *length = lanes_answer_rows(&answer);
+    lanes_wide *numbers = (lanes_wide *)room_of(*length * sizeof *numbers);
+    for (size_t column = 0; column < lanes_answer_columns(&answer); column++) lanes_answer_wide(&answer, column, numbers, *length, out, room);
+    lanes_answer_close(&answer);
+    free(numbers);
+    return refused;
+}
+
+static call_on_two *const CALLS[] = {checks, dumps, summarizes, creates, imports, lanes_query, lanes_delete, lanes_offer, lanes_apply, lanes_merge, answers_all, forgets, tells_schema, gives_columns, changes_by_import, changes_by_delete, changes_by_offer, inspects, changes_by_columns, answers_by_columns};
+static const char *const NAMES[] = {"check", "dump", "summary", "create", "import", "query", "delete", "offer", "apply", "merge", "queries", "forget", "schema", "columns", "table_import", "table_delete", "table_apply", "inspect", "table_import_columns", "answer_ask"};
 enum { COUNT = sizeof CALLS / sizeof *CALLS };
 
 /* Calls with so much of a room of ROOM bytes, all of them FILLER. The inputs are copies in blocks of their own, so that valgrind sees a read
@@ -223,7 +239,7 @@ static inputs make_inputs(void) {
     static const int64_t numbers[] = {1, 2, 3, 4};
     bytes both = bytes_of(queries), cells = {(uint8_t *)(uintptr_t)numbers, sizeof numbers};
     for (size_t call = 7; call < COUNT; call++) {
-        bytes from = call == 7 ? summary : call == 10 ? both : call == 13 ? bytes_of("B A") : call == 14 ? bytes_of("B,A\n5,6\n") : call == 15 ? bytes_of("A > 1") : call == 18 ? cells : other;
+        bytes from = call == 7 ? summary : call == 10 ? both : call == 13 ? bytes_of("B A") : call == 14 ? bytes_of("B,A\n5,6\n") : call == 15 ? bytes_of("A > 1") : call == 18 ? cells : call == 19 ? bytes_of("SELECT A,AVG(B) FROM T GROUP BY A") : other;
         free(made.others[call].at);
         made.others[call] = copy_of(from.at, from.length);
     }

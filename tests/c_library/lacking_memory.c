@@ -63,6 +63,14 @@ static uint8_t between(lanes_table *table, lanes_place *place) {
     return lanes_columns_between(table, 0, 1, text_of("HITS"), 4, text_of("SITE = 1"), 8, values, 64, valid, 256, nulls, 2, &length, place);
 }
 
+static uint8_t answer(lanes_table *table, lanes_place *place) {
+    lanes_answer kept = LANES_NO_ANSWER;
+    static const char sql[] = "SELECT SITE,AVG(HITS) FROM COUNTS GROUP BY SITE";
+    uint8_t number = lanes_answer_ask(table, text_of(sql), sizeof sql - 1, &kept, place);
+    lanes_answer_close(&kept);
+    return number;
+}
+
 static bytes file_of(lanes_table *table) {
     bytes found;
     TAKE(found, lanes_file(table, out, room, &length, &place));
@@ -134,6 +142,7 @@ int main(void) {
     expect(refuse_each(start, inspect, "a report") > 5, "growths of a report");
     expect(refuse_each(start, file, "a file") > 0, "growths of a file");
     expect(refuse_each(start, between, "columns") > 2, "growths of columns");
+    expect(refuse_each(start, answer, "an answer by columns") > 5, "growths of an answer by columns");
     free(empty.at);
     free(start.at);
     free(offer.at);

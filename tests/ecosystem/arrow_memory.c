@@ -51,19 +51,47 @@ static lanes_arrow_block *filled(void) {
     return block;
 }
 
+/* Makes the stream of a block: 0, or the fault. */
+static int block_stream(struct ArrowArrayStream *stream) {
+    lanes_arrow_block *block = filled();
+    if (!block) return ENOMEM;
+    int fault = lanes_arrow_stream(block, SCHEMA, strlen(SCHEMA), stream);
+    if (fault) lanes_arrow_free(block);
+    return fault;
+}
+
+/* The numbers of an answer: those in two words are at most 38 digits long, and the last one is the greatest of these. */
+static int64_t numbers[ROWS];
+static uint64_t words[2 * ROWS];
+static uint8_t marks[ROWS];
+
+static void fill_numbers(void) {
+    for (size_t i = 0; i < ROWS; i++) {
+        marks[i] = i % 3 != 0;
+        numbers[i] = marks[i] ? (int64_t)(i % 100) - 50 : 0;
+        words[2 * i] = (uint64_t)numbers[i];
+        words[2 * i + 1] = numbers[i] < 0 ? UINT64_MAX : 0;
+    }
+    words[2 * ROWS - 2] = 0x098A223FFFFFFFFF;
+    words[2 * ROWS - 1] = 0x4B3B4CA85A86C47A;
+}
+
+static const lanes_arrow_column COLUMNS[] = {
+    {"A", 0, 0, numbers, marks}, {"SUM(B)", 0, 1, words, marks}, {"AVG(B)", 1, 0, numbers, marks}, {"D", 1, 1, words, marks}};
+
+/* Makes the stream of an answer: 0, or the fault. */
+static int answer_stream(struct ArrowArrayStream *stream) { return lanes_arrow_answer(ROWS, 4, COLUMNS, stream); }
+
 /* Makes a stream and takes all of it; whether nothing failed. After a failure of a stream it is asked once more. */
-static int taken(long allocations) {
+static int taken(int (*make)(struct ArrowArrayStream *), const char *format, long allocations) {
     struct ArrowArrayStream stream;
     struct ArrowSchema schema;
     struct ArrowArray array;
     int64_t rows = 0;
     left = allocations;
-    lanes_arrow_block *block = filled();
-    if (!block) return 0;
-    int fault = lanes_arrow_stream(block, SCHEMA, strlen(SCHEMA), &stream);
+    int fault = make(&stream);
     if (fault) {
         if (fault != ENOMEM) wrong("another fault than memory");
-        lanes_arrow_free(block);
         return 0;
     }
     int is_whole = 1;
@@ -71,7 +99,7 @@ static int taken(long allocations) {
         if (fault != ENOMEM || !is_whole || strcmp(stream.get_last_error(&stream), "out of memory")) wrong("get_schema");
         is_whole = 0;
     }
-    if (schema.n_children != 4 || strcmp(schema.children[3]->name, "D") || strcmp(schema.children[1]->format, "s")) wrong("schema");
+    if (schema.n_children != 4 || strcmp(schema.children[3]->name, "D") || strcmp(schema.children[1]->format, format)) wrong("schema");
     schema.release(&schema);
     for (;;) {
         while ((fault = stream.get_next(&stream, &array))) {
@@ -99,10 +127,28 @@ static void try_schemas(void) {
     }
 }
 
+/* Numbers of 39 digits are refused; in two words they are one more than the last one above, and their opposites. */
+static void try_numbers(void) {
+    struct ArrowArrayStream stream;
+    left = 1000;
+    words[2 * ROWS - 2]++;
+    if (answer_stream(&stream) != ERANGE) wrong("10^38");
+    words[2 * ROWS - 2] = 0 - words[2 * ROWS - 2];
+    words[2 * ROWS - 1] = ~words[2 * ROWS - 1];
+    if (answer_stream(&stream) != ERANGE) wrong("-10^38");
+    words[2 * ROWS - 2]++;
+    if (answer_stream(&stream)) wrong("-10^38 + 1");
+    stream.release(&stream);
+    fill_numbers();
+}
+
 int main(void) {
-    long failed = 0;
+    long failed = 0, of_answers = 0;
     try_schemas();
-    while (!taken(failed)) failed++;
-    printf("%ld\n", failed);
-    return failed > 20 ? 0 : 1;
+    fill_numbers();
+    try_numbers();
+    while (!taken(block_stream, "s", failed)) failed++;
+    while (!taken(answer_stream, "d:38,0", of_answers)) of_answers++;
+    printf("%ld %ld\n", failed, of_answers);
+    return failed > 20 && of_answers > 20 ? 0 : 1;
 }

@@ -6,6 +6,7 @@ from __future__ import annotations
 import ctypes
 import gc
 import random
+from decimal import Decimal
 
 import lanes
 import numpy as np
@@ -302,6 +303,15 @@ POINTER_OF = ctypes.PYFUNCTYPE(P, ctypes.py_object, ctypes.c_char_p)(("PyCapsule
 LETTERS = {b"c": ctypes.c_int8, b"s": ctypes.c_int16, b"i": ctypes.c_int32, b"l": ctypes.c_int64}
 
 
+def numbers_at(address, letter, count):
+    """The numbers of a buffer. Those of a decimal have 16 bytes each, and of one with six decimals they are millionths."""
+    if letter in LETTERS:
+        return list((LETTERS[letter] * count).from_address(address))
+    data = ctypes.string_at(address, 16 * count)
+    whole = [int.from_bytes(data[at : at + 16], "little", signed=True) for at in range(0, 16 * count, 16)]
+    return {b"d:38,0": whole, b"d:38,6": [Decimal(f"{number}E-6") for number in whole]}[letter]
+
+
 def consumed(capsule):
     """The columns of a capsule's stream as lists with their letters, by a consumer that knows Arrow's structs alone."""
     stream = Stream.from_address(POINTER_OF(capsule, b"arrow_array_stream"))
@@ -320,7 +330,7 @@ def consumed(capsule):
         for c, column in enumerate(columns):
             child = array.children[c].contents
             assert child.length == array.length and child.offset == 0 and child.n_buffers == 2 and child.buffers[1] % 64 == 0
-            values = (LETTERS[column.format] * child.length).from_address(child.buffers[1])
+            values = numbers_at(child.buffers[1], column.format, child.length)
             bits = ctypes.string_at(child.buffers[0], (child.length + 7) // 8) if child.buffers[0] else b""
             cells = [value if not bits or bits[row // 8] >> row % 8 & 1 else None for row, value in enumerate(values)]
             assert cells.count(None) == child.null_count and bool(bits) == bool(child.null_count)

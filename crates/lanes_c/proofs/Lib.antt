@@ -22,3 +22,5 @@ pub mod TurnEnds
 pub mod TurnSteps
 pub mod PartsTaken
 pub mod DeleteParts
+pub mod AnswerHandleFields
+pub mod AnswerGivings

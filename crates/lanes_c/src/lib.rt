@@ -2,6 +2,9 @@
 //! opened of, until it is closed.
 #![tactic(auto)]
 
+mod answer_cells;
+mod answer_columns;
+mod answer_handle;
 mod between;
 mod changing;
 mod column_import;
@@ -37,6 +40,13 @@ mod taking;
 mod turn_calls;
 mod turn_handle;
 
+pub use answer_cells::Wide;
+pub use answer_columns::{
+    lanes_answer_ask, lanes_answer_close, lanes_answer_columns, lanes_answer_finish,
+    lanes_answer_heading, lanes_answer_kind, lanes_answer_numbers, lanes_answer_rows,
+    lanes_answer_wide,
+};
+pub use answer_handle::KeptAnswer;
 pub use changing::{lanes_create, lanes_delete, lanes_forget, lanes_import};
 pub use column_import::lanes_table_import_columns;
 pub use columns::{lanes_columns, lanes_columns_between, lanes_schema};

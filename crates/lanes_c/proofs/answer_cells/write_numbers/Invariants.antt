@@ -1,0 +1,7 @@
+-- The numbers of the first rows are written.
+use Rattle.std.proofs.Common.{◌≡◌, take}
+use Rattle.lanes_c.specs.AnswerCells.{numbers_in}
+use Rattle.lanes_c.proofs.answer_cells.write_numbers.Given as goal
+
+abbrev pub invariant-loop-row : goal.invariant-loop-row
+invariant-loop-row l = take l.row l.numbers ≡ numbers_in l.column (take l.row l.rows)
