@@ -20,6 +20,7 @@ from .waiting import Wait
 
 if TYPE_CHECKING:
     from .columns import Columns
+    from .pieces import Progress
 
 #: How many batches a folder may have.
 _MOST = 1_048_576
@@ -131,7 +132,14 @@ class Folder:
         """What another replica does not have, by its summary."""
         return self.read().offer(summary)
 
-    def import_csv(self, csv: Csv, *, heading: bool = True, batch: Optional[GivenName] = None) -> int:
+    def import_csv(
+        self,
+        csv: Csv,
+        *,
+        heading: bool = True,
+        batch: Optional[GivenName] = None,
+        progress: Optional[Progress] = None,
+    ) -> int:
         """Adds rows, as `Table.import_csv` does; how many batches are new. Without `batch` only the smallest part is read. A load that is sent
         again under its name adds no rows, and is on the disk afterwards. If the folder has some of its batches, these are on the disk before the
         others are put.
@@ -140,19 +148,19 @@ class Folder:
             Refused: a fault of the text or of the name; `Conflict`; `Full`.
             OSError: a part that has one of its batches can't be synced, and nothing is put.
         """
-        return self._add(lambda empty: empty.import_csv(csv, heading=heading, batch=batch), batch is not None)
+        return self._add(lambda empty: empty.import_csv(csv, heading=heading, batch=batch, progress=progress), batch is not None)
 
-    def import_columns(self, columns: Mapping[str, Any], *, batch: Optional[GivenName] = None) -> int:
+    def import_columns(self, columns: Mapping[str, Any], *, batch: Optional[GivenName] = None, progress: Optional[Progress] = None) -> int:
         """Adds rows of arrays, as `Table.import_columns` does; how many batches are new."""
-        return self._add(lambda empty: empty.import_columns(columns, batch=batch), batch is not None)
+        return self._add(lambda empty: empty.import_columns(columns, batch=batch, progress=progress), batch is not None)
 
-    def import_frame(self, frame: Any, *, batch: Optional[GivenName] = None) -> int:
+    def import_frame(self, frame: Any, *, batch: Optional[GivenName] = None, progress: Optional[Progress] = None) -> int:
         """Adds the rows of a frame of pandas, as `Table.import_frame` does; how many batches are new."""
-        return self._add(lambda empty: empty.import_frame(frame, batch=batch), batch is not None)
+        return self._add(lambda empty: empty.import_frame(frame, batch=batch, progress=progress), batch is not None)
 
-    def import_arrow(self, data: Any, *, batch: Optional[GivenName] = None) -> int:
+    def import_arrow(self, data: Any, *, batch: Optional[GivenName] = None, progress: Optional[Progress] = None) -> int:
         """Adds the rows of Arrow's stream, as `Table.import_arrow` does; how many batches are new."""
-        return self._add(lambda empty: empty.import_arrow(data, batch=batch), batch is not None)
+        return self._add(lambda empty: empty.import_arrow(data, batch=batch, progress=progress), batch is not None)
 
     def delete(self, condition: str) -> int:
         """Deletes the rows at which a condition is true; how many there were. Rows that come meanwhile aren't deleted. Deletions of such rows

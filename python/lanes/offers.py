@@ -9,6 +9,7 @@ from . import arguments, calls
 from .holdings import Holdings
 from .batch_name import GREATEST, BatchName
 from .columns import BITS, ColumnData
+from .pieces import AT_ONCE, BATCH, Load, Progress, later, tell
 
 if TYPE_CHECKING:
     from .table import Table
@@ -16,11 +17,8 @@ if TYPE_CHECKING:
 #: The class of a table.
 _Table = TypeVar("_Table", bound="Table")
 
-#: How many rows a vector and a batch have.
-_VECTOR, _BATCH = 1024, 65_536
-
-#: How many rows are made canonical at once.
-_AT_ONCE = 4 * _BATCH
+#: How many rows a vector has.
+_VECTOR = 1024
 
 #: How often a name is drawn that nobody has.
 _DRAWS = 16
@@ -32,7 +30,7 @@ _OUT_OF_TYPE, _NUMBERS_SPENT = 7, 9
 _REVERSED = {8: [0, 4, 2, 6, 1, 5, 3, 7], 16: [0, 2, 1, 3], 32: [0, 1], 64: [0]}
 
 
-def with_rows(table: _Table, columns: Mapping[str, Any], batch: Optional[BatchName]) -> _Table:
+def with_rows(table: _Table, columns: Mapping[str, Any], batch: Optional[BatchName], progress: Optional[Progress]) -> _Table:
     """The table with the rows of arrays. They go in as offers of some batches each, which are made canonical one by one; so there is never
     much in memory in addition to the arrays.
 
@@ -48,23 +46,21 @@ def with_rows(table: _Table, columns: Mapping[str, Any], batch: Optional[BatchNa
     rows = lengths.pop()
     if not rows:
         return table
-    batches = -(-rows // _BATCH)
-    name = _drawn(table, batches) if batch is None else batch
-    if name.number + batches - 1 > GREATEST:
-        raise calls.refused(_NUMBERS_SPENT)
+    batches = -(-rows // BATCH)
+    name = drawn_name(table, batches) if batch is None else batch
+    later(name, batches - 1)
     bits, front = [BITS[kind] for kind in table.columns.values()], table._front()
-    if rows <= _AT_ONCE:
-        return table.apply(_offer(front, _batches(data, bits, 0, rows, name), batches))
-    empty, offer = type(table).create(table.name, table.columns), calls.Growing()
-    offer.add(front + batches.to_bytes(4, "little"))
-    for first in range(0, rows, _AT_ONCE):
-        count = min(_AT_ONCE, rows - first)
-        own = BatchName(name.origin, name.number + first // _BATCH)
-        some = empty.apply(_offer(front, _batches(data, bits, first, count, own), -(-count // _BATCH)))
-        offer.add(some._view()[len(front) + 4 : -8])
-    offer.add(bytes(8))
-    # Canonical batches in order of name, without deletions, are a canonical file.
-    return table._made(offer.whole()) if table == empty else table._applied(offer.whole())
+    if rows <= AT_ONCE:
+        made = table.apply(_offer(front, _batches(data, bits, 0, rows, name), batches))
+        tell(progress, rows, rows)
+        return made
+    load = Load(table)
+    for first in range(0, rows, AT_ONCE):
+        count = min(AT_ONCE, rows - first)
+        offer = _offer(front, _batches(data, bits, first, count, later(name, first // BATCH)), -(-count // BATCH))
+        load.add(load.empty.apply(offer))
+        tell(progress, first + count, rows)
+    return load.into(table)
 
 
 def _given(table: Table, columns: Mapping[str, Any]) -> List[Column]:
@@ -203,7 +199,7 @@ def _judge(data: List[ColumnData], bits: List[int], first: int) -> None:
         raise calls.refused(_OUT_OF_TYPE, *min(found))
 
 
-def _drawn(table: Table, batches: int) -> BatchName:
+def drawn_name(table: Table, batches: int) -> BatchName:
     """A name, drawn at random, under which and under the next ones of which the table has no batch and no deletion.
 
     Raises:
@@ -229,8 +225,8 @@ def _batches(columns: List[Column], bits: List[int], first: int, rows: int, name
     _judge(data, bits, first)
     vectors = [_vectors(column, width) for column, width in zip(data, bits)]
     parts: List[Any] = []
-    for at, begin in enumerate(range(0, rows, _BATCH)):
-        count = min(_BATCH, rows - begin)
+    for at, begin in enumerate(range(0, rows, BATCH)):
+        count = min(BATCH, rows - begin)
         parts += [_name_bytes(name, at), (count - 1).to_bytes(2, "little")]
         some = slice(begin // _VECTOR, -(-(begin + count) // _VECTOR))
         for plain, masks in vectors:

@@ -23,6 +23,7 @@ from .streams import ArrowStream
 if TYPE_CHECKING:
     from .columns import Columns
     from .folder import Folder
+    from .pieces import Progress
 
 #: How much room an answer's text is given at first, and a file beside its inputs.
 _ROOM = 65_536
@@ -342,12 +343,21 @@ class Table:
             raise ValueError(f"count: 0 rows or more are wanted, and this is {most}")
         return Answer(list(self.columns), first_rows(self, most))
 
-    def import_csv(self: _Self, csv: Csv, *, heading: bool = True, batch: Optional[GivenName] = None) -> _Self:
+    def import_csv(
+        self: _Self,
+        csv: Csv,
+        *,
+        heading: bool = True,
+        batch: Optional[GivenName] = None,
+        progress: Optional[Progress] = None,
+    ) -> _Self:
         """The table with more rows: those of comma-separated values. A field is a whole number, or empty for a null.
 
         Args:
             csv: the text itself, a file that is open for reading, or a path object, as pathlib.Path("monday.csv").
             heading: whether the first line names all columns, in any order. Else fields are in the table's order.
+            progress: what is called with how many bytes of the text are in and how many there are, after each 262,144 rows. Between two such
+                calls Ctrl-C is heard, too. What is raised ends the import.
             batch: the first batch's name, as `"1.17"` or `(1, 17)`. The same rows under the same name change nothing, so a load may be
                 sent twice. Without it a name is drawn at random that nobody else has.
 
@@ -356,12 +366,19 @@ class Table:
             ValueError: `batch` is no name; or `csv` is a text without a line's end that ends as a path does, or is the path of a file.
             TypeError: `csv` is neither a text nor bytes nor a file.
         """
+        from .pieces import with_text
+
         has_heading, text = arguments.flag_of("heading", heading), _text_of(csv)
-        origin, number = name_of(batch) if batch is not None else (0, 0)
+        return with_text(self, text, has_heading, name_of(batch) if batch is not None else None, progress)
+
+    def _with_rows_of(self: _Self, text: bytes, has_heading: bool, batch: Optional[BatchName]) -> _Self:
+        """The table with the rows of a text, by one call."""
+        origin, number = batch if batch is not None else (0, 0)
         words = (ctypes.c_uint64 * _WORDS)(*(secrets.randbits(64) for _ in range(_WORDS)))
+        named = origin, number, ctypes.addressof(words), _WORDS
         room = self._length() + len(text) + _ROOM
         with explaining.explained(self, calls.Given(calls.ROWS, text, has_heading=has_heading)):
-            return self._made(calls.made(calls.IMPORT, room, self._file, text, has_heading, origin, number, ctypes.addressof(words), _WORDS))
+            return self._made(calls.made(calls.IMPORT, room, self._file, text, has_heading, *named))
 
     def to_numpy(self, columns: Optional[Iterable[str]] = None, where: str = "") -> Columns:
         """The live rows, in order of row name, as arrays of numpy: a dict of `ColumnData`, of each column its values, of the column's own type,
@@ -417,7 +434,7 @@ class Table:
     else:
         __arrow_c_stream__ = ArrowStream()
 
-    def import_arrow(self: _Self, data: Any, *, batch: Optional[GivenName] = None) -> _Self:
+    def import_arrow(self: _Self, data: Any, *, batch: Optional[GivenName] = None, progress: Optional[Progress] = None) -> _Self:
         """The table with the rows of whatever gives Arrow's stream, as a table of pyarrow, a frame of polars or another table. Its columns
         are the table's, in any order: int8, int16, int32 or int64, which may have nulls.
 
@@ -429,15 +446,16 @@ class Table:
         """
         from .arrow_reading import columns_of
 
-        return self.import_columns(columns_of(data), batch=batch)
+        return self.import_columns(columns_of(data), batch=batch, progress=progress)
 
-    def import_columns(self: _Self, columns: Mapping[str, Any], *, batch: Optional[GivenName] = None) -> _Self:
+    def import_columns(self: _Self, columns: Mapping[str, Any], *, batch: Optional[GivenName] = None, progress: Optional[Progress] = None) -> _Self:
         """The table with more rows: of each column its values. The file is that of an import of the same rows as comma-separated values.
 
         Args:
             columns: of each column of the table a `ColumnData` as `to_numpy` gives it, an array or masked array of whole numbers, or a list
                 of them with None for a null.
             batch: the first batch's name, as for `import_csv`.
+            progress: what is called with how many rows are in and how many there are, as for `import_csv`.
 
         Raises:
             Refused: `OutOfType` with the row and the column, from 0; `Conflict`, `Full` and others.
@@ -446,14 +464,14 @@ class Table:
         """
         from .offers import with_rows
 
-        return with_rows(self, columns, name_of(batch) if batch is not None else None)
+        return with_rows(self, columns, name_of(batch) if batch is not None else None, progress)
 
-    def import_frame(self: _Self, frame: Any, *, batch: Optional[GivenName] = None) -> _Self:
+    def import_frame(self: _Self, frame: Any, *, batch: Optional[GivenName] = None, progress: Optional[Progress] = None) -> _Self:
         """The table with the rows of a frame of pandas, whose columns are the table's, in any order. A column of floats is refused, also one
         that pandas made of whole numbers with nulls: `frame.convert_dtypes()` makes Int64 of it."""
         from .offers import columns_of
 
-        return self.import_columns(columns_of(frame), batch=batch)
+        return self.import_columns(columns_of(frame), batch=batch, progress=progress)
 
     def delete(self: _Self, condition: str) -> _Self:
         """The table without the rows at which a condition is true: what comes after WHERE in a query.
@@ -617,7 +635,7 @@ class Table:
 
     def _view(self) -> memoryview:
         """The file's bytes, without a copy."""
-        return memoryview(self._file) if isinstance(self._file, bytes) else self._file.view()
+        return calls.view_of(self._file)
 
     def __len__(self) -> int:
         return _whole(self.query(f"SELECT COUNT(*) FROM {self.name}")[0][0])

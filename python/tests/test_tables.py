@@ -319,7 +319,7 @@ class Changes(unittest.TestCase):
             self.assertEqual(empty.import_csv("A\n1\n").dump(names=True), "BATCH,ORDINAL,A\n3.17,0,1\n")
 
     def test_names_are_drawn_of_all_origins_and_numbers(self) -> None:
-        names = [offers._drawn(visits(), 1) for _ in range(64)]
+        names = [offers.drawn_name(visits(), 1) for _ in range(64)]
         for drawn in {name.origin for name in names}, {name.number for name in names}:
             self.assertEqual(len(drawn), 64)
             self.assertGreater(max(drawn), 1 << 31)

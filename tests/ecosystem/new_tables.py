@@ -80,6 +80,23 @@ def pieces_are_the_rows_in_order(seed, count=20):
             assert words in str(fault), fault
 
 
+def imports_of_columns_tell_how_far_they_are():
+    rows, told = 300_000, []
+    empty, data = Table.create("T", {"A": "INTEGER"}), {"A": np.arange(rows)}
+    for import_rows, given in (empty.import_columns, data), (empty.import_frame, pd.DataFrame(data)), (empty.import_arrow, empty.import_columns(data)):
+        told.clear()
+        table = import_rows(given, batch="1.1", progress=lambda done, whole: told.append((done, whole)))
+        assert told == [(262_144, rows), (rows, rows)] and table == empty.import_columns(data, batch="1.1"), told
+    with tempfile.TemporaryDirectory() as room:
+        folder = Folder.of(os.path.join(room, "site"), empty)
+        try:
+            folder.import_columns(data, progress=lambda done, whole: 1 // (whole - done))  # of the last piece
+            raise AssertionError("nothing was raised")
+        except ZeroDivisionError:
+            assert len(folder) == 0 and len(folder.parts()) == 1
+        assert folder.import_columns({"A": [1, 2]}, progress=lambda done, whole: told.append((done, whole))) == 1 and told[-1] == (2, 2)
+
+
 def frames_of_answers_have_their_headings():
     table = table_of(random.Random(4), 100)
     answer = table.query("SELECT B,COUNT(*) AS N,AVG(C) FROM T GROUP BY B")
@@ -111,4 +128,4 @@ def streams_make_tables_and_folders_give_them():
         assert len(table.import_arrow(folder)) == 2 * len(table)
 
 
-TESTS = [types_are_those_of_the_data, frames_that_are_no_table_are_refused, frames_of_answers_have_their_headings, folders_give_frames_and_arrays]
+TESTS = [types_are_those_of_the_data, frames_that_are_no_table_are_refused, imports_of_columns_tell_how_far_they_are, frames_of_answers_have_their_headings, folders_give_frames_and_arrays]
