@@ -9,12 +9,12 @@ use Rattle.folder_protocol.specs.Keeping.{AreKept}
 use Rattle.folder_protocol.specs.declared.putting.Outcome.{Outcome}
 use Rattle.folder_protocol.specs.declared.putting.Outcome.TheVariants.{OnDisk, Unsynced, Gone, Damaged}
 use Rattle.folder_turns.specs.Orders.{Matter, Caused, Says, HasOnlySeen, HasUnseen}
-use Rattle.folder_turns.specs.Turns.{State, EndsSaying}
+use Rattle.folder_turns.specs.Turns.{State, EndsSaying, IsAstray}
 use Rattle.folder_turns.specs.declared.order.End.{End}
 use Rattle.folder_turns.specs.declared.order.End.TheVariants as ends
 use Rattle.folder_turns.specs.declared.order.Task.{Task}
 use Rattle.folder_turns.specs.declared.order.Task.TheVariants as tasks
-use Rattle.folder_turns.specs.declared.replay.Fault.{Fault as ReplayFault}
+use Rattle.folder_turns.specs.declared.replay.Fault.{Fault as RunFault}
 use Rattle.folder_turns.specs.declared.replay.Fault.TheVariants as replay
 use Rattle.lanes_c.specs.Faults.{told_of_replay}
 use Rattle.lanes_c.specs.FolderTurns.{EndsAs, EndsIn, FaultCause, GoesOn, HasEnded, NumberCause, SaysEnd}
@@ -101,18 +101,18 @@ module _ {E : Type 0} (m : Matter) (before calls : List Call) where
   number_caused : (end : Result End E) (n : ℕ) → EndsAs end n → Caused m end before calls → NumberCause m n before calls
   number_caused end n number cause = record { unsynced = unsynced end n number cause; gone = gone end n number cause; unseen = unseen end n number cause }
 
-  -- and so has the fault
-  fault_caused : (end : Result End E) (fault : Fault) → EndsIn end fault → Caused m end before calls → FaultCause fault m before calls
-  fault_caused (Ok (ends.Came OnDisk)) fault ends_in cause = absurd ends_in
-  fault_caused (Ok (ends.Came Unsynced)) fault ends_in cause = absurd ends_in
-  fault_caused (Ok (ends.Came Gone)) fault ends_in cause = absurd ends_in
-  fault_caused (Ok (ends.Came Damaged)) fault ends_in cause = subst (λ (f : Fault). FaultCause f m before calls) (sym ends_in) cause
-  fault_caused (Ok ends.Overtaken) fault ends_in cause = absurd ends_in
-  fault_caused (Ok ends.Unseen) fault ends_in cause = absurd ends_in
-  fault_caused (Ok (ends.Listed names)) fault ends_in cause = absurd ends_in
-  fault_caused (Ok ends.Kept) fault ends_in cause = absurd ends_in
-  fault_caused (Err error) fault (inl busy) cause = subst (λ (f : Fault). FaultCause f m before calls) (sym busy) cause
-  fault_caused (Err error) fault (inr (code, system)) cause = subst (λ (f : Fault). FaultCause f m before calls) (sym system) (inr cause)
+-- and so has the fault
+fault_caused : {E : Type 0} (before : List Call) (state : State) (end : Result End E) (fault : Fault) → EndsIn end fault → Caused state.matter end before (state.calls ++ before) → FaultCause fault before state
+fault_caused before state (Ok (ends.Came OnDisk)) fault ends_in cause = absurd ends_in
+fault_caused before state (Ok (ends.Came Unsynced)) fault ends_in cause = absurd ends_in
+fault_caused before state (Ok (ends.Came Gone)) fault ends_in cause = absurd ends_in
+fault_caused before state (Ok (ends.Came Damaged)) fault ends_in cause = subst (λ (f : Fault). FaultCause f before state) (sym ends_in) cause
+fault_caused before state (Ok ends.Overtaken) fault ends_in cause = absurd ends_in
+fault_caused before state (Ok ends.Unseen) fault ends_in cause = absurd ends_in
+fault_caused before state (Ok (ends.Listed names)) fault ends_in cause = absurd ends_in
+fault_caused before state (Ok ends.Kept) fault ends_in cause = absurd ends_in
+fault_caused before state (Err error) fault (inl busy) cause = subst (λ (f : Fault). FaultCause f before state) (sym busy) cause
+fault_caused before state (Err error) fault (inr (code, system)) cause = subst (λ (f : Fault). FaultCause f before state) (sym system) (inr cause)
 
 -- a turn has ended as its order
 pub has_ended : {E : Type 0} (before : List Call) (state : State) (call : FolderCall) (end : Result End E) (n : ℕ) → call.kind ≡ 0 → call.number ≡ n → state.asked ≡ None → EndsAs end n
@@ -129,15 +129,16 @@ has_ended {E} before state call end n ended told none number says = let ends_as 
 
 -- or is refused as it
 pub is_refused : {E : Type 0} (before : List Call) (state : State) (call : FolderCall) (end : Result End E) (fault : Fault) → EndsIn end fault → EndsSaying before state end → GoesOn before state call (Err fault)
-is_refused before state call end fault ends_in says = λ parts may. fault_caused state.matter before (state.calls ++ before) end fault ends_in (says parts may).1
+is_refused before state call end fault ends_in says = λ parts may. fault_caused before state end fault ends_in (says parts may).1
 
--- a fault of the replay is none of the folder
-pub strays : (before : List Call) (state : State) (call : FolderCall) (came : ReplayFault) (fault : Fault) → fault ≡ told_of_replay came → GoesOn before state call (Err fault)
-strays before state call came fault is = λ parts may. subst (λ (f : Fault). FaultCause f state.matter before (state.calls ++ before)) (sym is) (caused came)
+-- a fault of a run is that it has strayed, or that memory ran out
+pub strays : (before : List Call) (state : State) (call : FolderCall) (came : RunFault) (fault : Fault) → fault ≡ told_of_replay came → (came ≡ replay.Strayed → IsAstray before state)
+    → GoesOn before state call (Err fault)
+strays before state call came fault is astray = λ parts may. subst (λ (f : Fault). FaultCause f before state) (sym is) (caused came astray)
   where
-    caused : (other : ReplayFault) → FaultCause (told_of_replay other) state.matter before (state.calls ++ before)
-    caused replay.OutOfMemory = refl
-    caused replay.Strayed = inl refl
+    caused : (other : RunFault) → (other ≡ replay.Strayed → IsAstray before state) → FaultCause (told_of_replay other) before state
+    caused replay.OutOfMemory so = refl
+    caused replay.Strayed so = inl (refl, so refl)
 
 -- what is said of the end that came is said of it
 pub said_of : {E : Type 0} (P : Result End E → Type 0) (came : Option (Result End E)) (end : Result End E) → came ≡ Some end → MatchOption came (Unit {0}) P → P end

@@ -10,7 +10,7 @@ use Rattle.folder_protocol.specs.Keeping.{AreKept}
 use Rattle.folder_protocol.specs.declared.putting.Outcome.TheVariants.{OnDisk, Unsynced, Gone, Damaged}
 use Rattle.folder_turns.specs.Calls.{answered, names_of, found_of}
 use Rattle.folder_turns.specs.Orders.{Matter, MayTake, HasOnlySeen, HasUnseen, LinksInTask}
-use Rattle.folder_turns.specs.Turns.{State, AsksInTurn}
+use Rattle.folder_turns.specs.Turns.{State, AsksInTurn, IsAstray}
 use Rattle.folder_turns.specs.declared.order.End.{End}
 use Rattle.folder_turns.specs.declared.order.End.TheVariants as ends
 use Rattle.folder_turns.specs.declared.order.Task.{Task}
@@ -127,14 +127,14 @@ pub record NumberCause (m : Matter) (n : ℕ) (before calls : List Call) : Type 
   pub gone : n ≡ 3 → HasCall (FindsNone m.name) before calls ⊎ HasCall (Lacks m.names) before calls
   pub unseen : n ≡ 4 → HasUnseen m.names before calls
 
--- What a fault of a turn comes of: a call that failed, or other bytes that were found. System 0 may also be that the calls told are not
--- those that were asked for, and memory may run out.
-abbrev pub FaultCause : Fault → Matter → List Call → List Call → Type 0
-FaultCause faults.Busy m before calls = HasCall Fails before calls
-FaultCause faults.Damaged m before calls = HasCall (FindsOther m.name m.bytes) before calls
-FaultCause (faults.System code) m before calls = (code ≡ 0) ⊎ HasCall Fails before calls
-FaultCause (faults.Refused refusal) m before calls = refusal ≡ Memory
-FaultCause fault m before calls = ⊥
+-- What a fault of a turn comes of: a call that failed, or other bytes that were found. System 0 may also be that a run of the order has strayed
+-- from the calls that were told, and memory may run out.
+abbrev pub FaultCause : Fault → List Call → State → Type 0
+FaultCause faults.Busy before state = HasCall Fails before (state.calls ++ before)
+FaultCause faults.Damaged before state = HasCall (FindsOther state.matter.name state.matter.bytes) before (state.calls ++ before)
+FaultCause (faults.System code) before state = ((code ≡ 0) × IsAstray before state) ⊎ HasCall Fails before (state.calls ++ before)
+FaultCause (faults.Refused refusal) before state = refusal ≡ Memory
+FaultCause fault before state = ⊥
 
 -- A turn has come to its end, and asks for nothing. Its number says what the end of its task says, and has its cause; and files were given names
 -- as its task does.
@@ -149,7 +149,7 @@ HasEnded before state call =
 abbrev pub GoesOn : List Call → State → FolderCall → Given → Type 0
 GoesOn before state call (Ok names) =
     HasEnded before state call ⊎ (AsksInTurn before state × MatchOption state.asked ⊥ (λ asked. IsAsked asked state.matter.bytes call names))
-GoesOn before state call (Err fault) = (parts : Parts) → MayTake state.task state.matter parts before → FaultCause fault state.matter before (state.calls ++ before)
+GoesOn before state call (Err fault) = (parts : Parts) → MayTake state.task state.matter parts before → FaultCause fault before state
 
 -- The turn is about the same.
 abbrev pub IsAbout : State → State → Type 0
