@@ -6,7 +6,6 @@ from __future__ import annotations
 import contextlib
 import errno
 import fcntl
-import hashlib
 import io
 import os
 import re
@@ -30,7 +29,7 @@ _TRIES = 100
 
 def part_name(data: bytes) -> str:
     """The name of the part that has these bytes."""
-    return hashlib.sha512(data).hexdigest()[:32] + ".lanes"
+    return calls.part_name(data)
 
 
 @contextlib.contextmanager
@@ -90,8 +89,9 @@ def put(folder: str, data: bytes) -> str:
         Damaged: the part of this name has other bytes.
         OSError: the part can't be written.
     """
-    _put(folder, folder_driver.PUT, data, ())
-    return part_name(data)
+    name = part_name(data)
+    _put(folder, name, folder_driver.PUT, data, ())
+    return name
 
 
 def put_beside(folder: str, data: bytes, seen: Iterable[str]) -> bool:
@@ -101,12 +101,12 @@ def put_beside(folder: str, data: bytes, seen: Iterable[str]) -> bool:
         Busy: others have had the folder for ten seconds.
         OSError: `errno.ENOLCK` if the file system has no locks.
     """
-    return _put(folder, folder_driver.PUT_JUDGED, data, seen) != folder_driver.UNSEEN
+    return _put(folder, part_name(data), folder_driver.PUT_JUDGED, data, seen) != folder_driver.UNSEEN
 
 
-def _put(folder: str, command: int, data: bytes, seen: Iterable[str]) -> int:
+def _put(folder: str, name: str, command: int, data: bytes, seen: Iterable[str]) -> int:
     """What a put comes to. It is begun anew if a sweep took the temporary, or if the part that was there is gone when it is compared."""
-    path = os.path.join(folder, part_name(data))
+    path = os.path.join(folder, name)
     for _ in range(_TRIES):
         with Driver(folder) as driver, contextlib.suppress(FileExistsError):
             end = driver.follow(command, data, seen)

@@ -506,11 +506,9 @@ class Table:
         end = begin if last is None else _ordinal("last", last)
         if end < begin:
             raise calls.refused(_BAD_RANGE)
-        if arguments.flag_of("held", held):
-            file = self._asked().without_held(self._length() + _ROOM, name.origin, name.number, begin, end)
-            return self if file is None else self._made(file)
-        parts = [name.origin.to_bytes(4, "little"), name.number.to_bytes(4, "little"), begin.to_bytes(2, "little"), end.to_bytes(2, "little")]
-        return self.apply(self._front() + bytes(4) + (1).to_bytes(8, "little") + b"".join(parts))
+        rows, room = (name.origin, name.number, begin, end), self._length() + _ROOM
+        file = self._asked().without_held(room, *rows) if arguments.flag_of("held", held) else self._asked().without_rows(room, *rows)
+        return self if file is None else self._made(file)
 
     def forget(self: _Self) -> _Self:
         """The table without the batches of which every row is deleted. Their deletions stay, so that these rows never come back, and no
