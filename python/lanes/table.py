@@ -686,6 +686,8 @@ def _judged(argument: str, word: str) -> str:
     Raises:
         Refused: `BadSchema`.
     """
+    if word.split() != [word]:  # the words of a table have blanks between them, so this can't be one of them
+        raise calls.refused(_BAD_SCHEMA, sentence=f"{word!r} is no name: a name is a letter, and up to 63 letters, digits or _").said_of(argument)
     if not _WORD.fullmatch(word):
         words = f"{word} A INTEGER" if argument == "name" else f"T {word} INTEGER"
         raise calls.explained(calls.refused(_BAD_SCHEMA), calls.Given(calls.WORDS, words.encode())).said_of(argument)
