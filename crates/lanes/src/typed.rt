@@ -110,6 +110,7 @@ impl<'r, R: Eprint, D: Read> Read for Typed<'r, R, D> {
             return Ok(count);
         }
         let (line, _) = buffer.split_at_mut(count.min(buffer.len()));
-        Ok(self.take(line))
+        let taken = self.take(line);
+        Ok(taken.min(buffer.len()))
     }
 }
