@@ -87,7 +87,7 @@ def with_text(table: _Table, text: bytes, has_heading: bool, batch: Optional[Bat
     load = Load(table)
     for index, piece in enumerate(itertools.chain((first, second), pieces)):
         own = later(name, index * (AT_ONCE // BATCH))
-        load.add(_made_of(piece, load.empty, has_heading, own))
+        load.add(_made_of(piece, text, load.empty, has_heading, own))
         tell(progress, piece.bytes_read, len(text))
     return load.into(table)
 
@@ -109,8 +109,8 @@ def tell(progress: Optional[Progress], done: int, whole: int) -> None:
         progress(done, whole)
 
 
-def _made_of(piece: _Piece, empty: Table, has_heading: bool, name: BatchName) -> Table:
-    """The table of a piece. The place of a refusal is a line of the whole text.
+def _made_of(piece: _Piece, text: bytes, empty: Table, has_heading: bool, name: BatchName) -> Table:
+    """The table of a piece. The place of a refusal is a line of the whole text, and its sentence is that of the whole text.
 
     Raises:
         Refused: a fault of the piece.
@@ -121,7 +121,8 @@ def _made_of(piece: _Piece, empty: Table, has_heading: bool, name: BatchName) ->
         line, field = refused.args[2]
         if refused.name not in _OF_A_LINE:
             raise
-        raise calls.refused(refused.number, line + piece.lines_before, field) from None
+        moved = calls.refused(refused.number, line + piece.lines_before, field)
+        raise calls.explained(moved, calls.Given(calls.ROWS, text, has_heading=has_heading), empty._words()) from None
 
 
 def _pieces(text: bytes, has_heading: bool, has_one_field: bool) -> Iterator[_Piece]:
