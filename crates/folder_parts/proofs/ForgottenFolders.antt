@@ -5,8 +5,8 @@ use Rattle.table_model.specs.Operation.{Operation, Insert, Among, AreAgreeing, S
 use Rattle.table_model.specs.State.{live_rows}
 use Rattle.table_model.specs.Table.{Table}
 use Rattle.table_model.proofs.Operations.{state_of-same}
-use Rattle.forgotten_batches.specs.Forgotten.{forgotten}
-use Rattle.forgotten_batches.proofs.Rests.{forgets_all}
+use Rattle.replica_store.specs.Forgotten.{forgotten}
+use Rattle.replica_store.proofs.Rests.{forgets_all}
 use Rattle.replica_store.specs.Replica.{Replica}
 use Rattle.store_view.specs.Asked.{query_answer}
 use Rattle.replica_changes.specs.Commands.{file_of, merged_files, Puts}

@@ -10,8 +10,8 @@ use Rattle.table_model.specs.Table.{Table, same_table}
 use Rattle.table_model.specs.declared.refusal.Refusal.{Refusal}
 use Rattle.table_model.proofs.Operations.{state_of-operations, AreAgreeing-operations}
 use Rattle.table_model.proofs.SameTable.{one_text, itself_text, one_table, itself_table}
-use Rattle.forgotten_batches.specs.Forgotten.{forgotten, IsRestOf}
-use Rattle.forgotten_batches.proofs.Rests.{forgets_all}
+use Rattle.replica_store.specs.Forgotten.{forgotten, IsRestOf}
+use Rattle.replica_store.proofs.Rests.{forgets_all}
 use Rattle.replica_store.specs.Replica.{Replica, merged}
 use Rattle.replica_store.proofs.MergeAnswers.{is_merge}
 use Rattle.replica_reports.specs.Held.{held_in}

@@ -16,8 +16,8 @@ use Rattle.table_model.proofs.Joins.{or_else, get-union}
 use Rattle.table_model.proofs.Operations.{same_name, itself}
 use Rattle.table_model.proofs.Passed.{first_of_both, second_of_both}
 use Rattle.table_model.proofs.SameRows.{one_batch, itself_batch}
-use Rattle.forgotten_batches.specs.Forgotten.{has_live_row, IsRestOf}
-use Rattle.forgotten_batches.proofs.Rests.{Rows, Named, alive, rows_at, find-below}
+use Rattle.replica_store.specs.Forgotten.{has_live_row, IsRestOf}
+use Rattle.replica_store.proofs.Rests.{Rows, Named, alive, rows_at, find-below}
 use Rattle.folder_parts.specs.Covers.{are_held, has_or_deletes, covers_state, HasAll}
 
 abbrev Entry : Type 0

@@ -10,7 +10,7 @@ use Rattle.table_model.specs.declared.names.BatchName.{BatchName}
 use Rattle.table_model.specs.declared.names.RowName.{RowName}
 use Rattle.table_model.specs.declared.refusal.Refusal.{Refusal}
 use Rattle.folder_model.specs.Parts.{Parts}
-use Rattle.forgotten_batches.specs.Forgotten.{has_live_row}
+use Rattle.replica_store.specs.Forgotten.{has_live_row}
 use Rattle.replica_store.specs.Replica.{Replica}
 use Rattle.replica_reports.specs.Held.{held_in}
 use Rattle.folder_parts.specs.PartName.{part_name}

@@ -5,7 +5,7 @@ use Rattle.std.specs.Io.KnownBytes.{Appends}
 use Rattle.table_model.specs.Operation.{Operation, AreAgreeing, SameOperations}
 use Rattle.table_model.specs.State.{live_rows}
 use Rattle.table_model.specs.Table.{Table}
-use Rattle.forgotten_batches.specs.Forgotten.{forgotten}
+use Rattle.replica_store.specs.Forgotten.{forgotten}
 use Rattle.replica_store.specs.Replica.{Replica}
 use Rattle.store_view.specs.Asked.{query_answer}
 use Rattle.replica_reports.specs.Held.{held_in}

@@ -6,7 +6,7 @@ use Rattle.std.specs.FinMap as map
 use Rattle.table_model.specs.Outcome.{Acts}
 use Rattle.table_model.specs.declared.refusal.Refusal.{Refusal}
 use Rattle.table_model.specs.declared.refusal.Refusal.TheVariants.{Memory}
-use Rattle.forgotten_batches.specs.Forgotten.{forgotten}
+use Rattle.replica_store.specs.Forgotten.{forgotten}
 use Rattle.replica_store.specs.Forgets.{forgotten_batches, batches_of, dead_batches, row_count}
 use Rattle.replica_store.specs.Replica.{Replica}
 use Rattle.replica_store.proofs.ForgetCounts.{dropped_batches, none_dropped}

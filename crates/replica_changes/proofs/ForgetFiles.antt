@@ -14,9 +14,9 @@ use Rattle.table_model.specs.declared.names.RowName.{RowName}
 use Rattle.table_model.specs.declared.refusal.Refusal.{Refusal}
 use Rattle.table_model.proofs.NameOrder.{names_total}
 use Rattle.table_model.proofs.Operations.{Among-find, state_of-same, state_of-operations}
-use Rattle.forgotten_batches.specs.Forgotten.{forgotten, IsRestOf}
-use Rattle.forgotten_batches.specs.ForgetHistory.{TookListed}
-use Rattle.forgotten_batches.proofs.Rests.{forgets_all, rows_at, dead_first}
+use Rattle.replica_store.specs.Forgotten.{forgotten, IsRestOf}
+use Rattle.replica_store.specs.ForgetHistory.{TookListed}
+use Rattle.replica_store.proofs.Rests.{forgets_all, rows_at, dead_first}
 use Rattle.query_parser.specs.Descent.{query_of, condition_of}
 use Rattle.query_parser.specs.Resolve.{resolved, resolved_condition}
 use Rattle.replica_store.specs.Exchange.{OfferForm, offering, applied, summary_of}

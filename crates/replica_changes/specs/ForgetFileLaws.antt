@@ -6,8 +6,8 @@ use Rattle.table_model.specs.State.{State, live_rows}
 use Rattle.table_model.specs.Table.{Table}
 use Rattle.table_model.specs.declared.names.BatchName.{BatchName}
 use Rattle.table_model.specs.declared.names.RowName.{RowName}
-use Rattle.forgotten_batches.specs.Forgotten.{IsRestOf}
-use Rattle.forgotten_batches.specs.ForgetHistory.{TookListed}
+use Rattle.replica_store.specs.Forgotten.{IsRestOf}
+use Rattle.replica_store.specs.ForgetHistory.{TookListed}
 use Rattle.replica_store.specs.Exchange.{SummaryForm, OfferForm, summary_of}
 use Rattle.replica_store.specs.ExchangeLaws.{IsOffer}
 use Rattle.replica_store.specs.Replica.{Replica, deleted_rows, rows_between}

@@ -2,7 +2,7 @@
 use Rattle.std.specs.Prelude.{ℕ, List, length, Ok}
 use Rattle.table_model.specs.State.{Batch}
 use Rattle.table_model.specs.declared.names.BatchName.{BatchName}
-use Rattle.forgotten_batches.specs.Forgotten.{forgotten}
+use Rattle.replica_store.specs.Forgotten.{forgotten}
 use Rattle.replica_store.specs.Forgets.{batches_of, dead_batches, row_count}
 use Rattle.replica_store.specs.Replica.{Replica}
 use Rattle.replica_changes.specs.Commands.{Made}

@@ -7,10 +7,10 @@ use Rattle.table_model.specs.Name.{name_cmp}
 use Rattle.table_model.specs.State.{State, Batch, Agree, join}
 use Rattle.table_model.specs.Table.{same_table}
 use Rattle.table_model.proofs.Joins.{same_maps, same_states}
-use Rattle.forgotten_batches.specs.Forgotten.{forgotten, IsRestOf}
-use Rattle.forgotten_batches.specs.ForgetHistory.{left_out}
-use Rattle.forgotten_batches.proofs.Rests.{forgets, then_more, joins}
-use Rattle.forgotten_batches.proofs.Histories.{get-left_out, deleted-left_out, offers}
+use Rattle.replica_store.specs.Forgotten.{forgotten, IsRestOf}
+use Rattle.replica_store.specs.ForgetHistory.{left_out}
+use Rattle.replica_store.proofs.Rests.{forgets, then_more, joins}
+use Rattle.replica_store.proofs.Histories.{get-left_out, deleted-left_out, offers}
 use Rattle.replica_store.specs.Replica.{Replica}
 use Rattle.replica_store.specs.Exchange.{SummaryForm, OfferForm, offering, unlisted_state}
 use Rattle.replica_store.specs.ExchangeLaws.{IsOffer, Applies}

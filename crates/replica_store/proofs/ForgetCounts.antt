@@ -7,8 +7,8 @@ use Rattle.table_model.specs.State.{State, Batch}
 use Rattle.table_model.specs.declared.names.BatchName.{BatchName}
 use Rattle.table_model.specs.Name.{name_cmp}
 use Rattle.table_model.proofs.Joins.{same_states}
-use Rattle.forgotten_batches.specs.Forgotten.{has_live_row, forgotten}
-use Rattle.forgotten_batches.proofs.Rests.{Sorted-filter, deleted-forgotten}
+use Rattle.replica_store.specs.Forgotten.{has_live_row, forgotten}
+use Rattle.replica_store.proofs.Rests.{Sorted-filter, deleted-forgotten}
 use Rattle.replica_store.specs.Forgets.{batches_of, dead_batches, row_count}
 
 abbrev Entry : Type 0

@@ -19,8 +19,8 @@ use Rattle.table_model.proofs.NameOrder.{names_total, exact_names}
 use Rattle.table_model.proofs.Joins.{or_else, find-append, same_maps, same_states}
 use Rattle.segment_core.specs.Segment.{SegmentForm}
 use Rattle.catalogue_join.specs.RowRange.{row_names}
-use Rattle.forgotten_batches.specs.Forgotten.{has_live_row, forgotten}
-use Rattle.forgotten_batches.proofs.Rests.{Sorted-filter, find-filter, kept, kept_is, get-forgotten, deleted-forgotten, forgets, live}
+use Rattle.replica_store.specs.Forgotten.{has_live_row, forgotten}
+use Rattle.replica_store.proofs.Rests.{Sorted-filter, find-filter, kept, kept_is, get-forgotten, deleted-forgotten, forgets, live}
 use Rattle.replica_store.specs.Forgets.{is_live_entry, live_entries, live_segments, forgotten_batches}
 use Rattle.replica_store.specs.Parted.{Each, IsUpTo, IsPast, AreKeptInParts}
 use Rattle.replica_store.specs.Replica.{Replica}

@@ -28,3 +28,6 @@ pub mod RowLists
 pub mod RecodeAnswers
 pub mod JoinedStores
 pub mod Brings
+pub mod Rests
+pub mod Histories
+mod OfferLaws

@@ -4,7 +4,7 @@ use Rattle.std.specs.FinMap as map
 use Rattle.std.specs.FinSet as set
 use Rattle.table_model.specs.State.{State, Batch, Agree, join}
 use Rattle.table_model.specs.declared.names.BatchName.{BatchName}
-use Rattle.forgotten_batches.specs.Forgotten.{IsRestOf}
+use Rattle.replica_store.specs.Forgotten.{IsRestOf}
 use Rattle.replica_store.specs.Exchange.{SummaryForm, OfferForm}
 use Rattle.replica_store.specs.ExchangeLaws.{IsOffer, Applies}
 use Rattle.replica_store.specs.Forgets.{forgotten_batches}

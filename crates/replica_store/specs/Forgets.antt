@@ -6,7 +6,7 @@ use Rattle.table_model.specs.Name.{row_name_cmp}
 use Rattle.table_model.specs.State.{State, Batch}
 use Rattle.table_model.specs.declared.names.BatchName.{BatchName}
 use Rattle.table_model.specs.declared.refusal.Refusal.{Refusal}
-use Rattle.forgotten_batches.specs.Forgotten.{has_live_row, forgotten}
+use Rattle.replica_store.specs.Forgotten.{has_live_row, forgotten}
 use Rattle.replica_store.specs.Replica.{Replica}
 use Rattle.replica_store.specs.Segments.{Entry, Segments}
 

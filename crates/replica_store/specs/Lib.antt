@@ -10,3 +10,5 @@ pub mod RecodeLaws
 pub mod ForgetStoreLaws
 pub mod Joined
 pub mod Brought
+pub mod Forgotten
+pub mod ForgetHistory

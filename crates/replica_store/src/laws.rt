@@ -2,6 +2,8 @@
 ghost use Rattle.replica_store.specs.ExchangeLaws.{ExchangeLaws};
 ghost use Rattle.replica_store.specs.ForgetStoreLaws.{ForgetStoreLaws};
 ghost use Rattle.replica_store.specs.MergeLaws.{MergeLaws, KeepingLaws};
+ghost use Rattle.replica_store.specs.Forgotten.{ForgetLaws};
+ghost use Rattle.replica_store.specs.ForgetHistory.{ForgetHistoryLaws, ForgetOfferLaws};
 
 /// A merge is refused as `Conflict` exactly if the states don't agree, with the least name that has two lists of rows. Merges that
 /// answer Ok make the same state in both orders and in both bracketings, and a second merge changes nothing.
@@ -25,4 +27,19 @@ pub fn keeping_laws()
 /// would make without any forget: all its deletions, and all its batches but for some of which every row is deleted.
 pub fn forget_store_laws()
     ensures { ForgetStoreLaws }
+{}
+
+/// What is left of a state after batches of which every row is deleted were dropped: it answers alike, joins alike, and has one least form.
+pub fn forget_laws()
+    ensures { ForgetLaws }
+{}
+
+/// Replicas that took the same, whatever they forgot meanwhile, have the same live rows, and once they forget the same state.
+pub fn forget_history_laws()
+    ensures { ForgetHistoryLaws }
+{}
+
+/// What a replica forgets is what it offers to a summary that lists the batches of which every row is deleted.
+pub fn forget_offer_laws()
+    ensures { ForgetOfferLaws }
 {}

@@ -9,7 +9,7 @@ ghost use Rattle.table_model.specs.State.{union_of, live_rows};
 ghost use Rattle.table_model.specs.Table.{IsBatch};
 ghost use Rattle.segment_core.specs.Segment.{canonical_segment, widths_in, widths_of};
 ghost use Rattle.segment_core.specs.SegmentBytes.{HasBytesIn};
-ghost use Rattle.forgotten_batches.specs.Forgotten.{forgotten};
+ghost use Rattle.replica_store.specs.Forgotten.{forgotten};
 ghost use Rattle.replica_store.specs.Forgets.{live_segments, forgotten_batches, dead_batches, batches_of, row_count};
 ghost use Rattle.replica_store.specs.Brought.{IsBrought, unheld_state};
 ghost use Rattle.replica_store.specs.Exchange.{summary_of, offered, unlisted, unlisted_state, applied, opened};

@@ -2,7 +2,7 @@
 use Rattle.std.specs.Prelude.{◌≡◌}
 use Rattle.std.proofs.Common.{sym, subst, ◌∙◌}
 use Rattle.std.proofs.lemmas.Bool.{false≢true}
-use Rattle.forgotten_batches.specs.Forgotten.{forgotten}
+use Rattle.replica_store.specs.Forgotten.{forgotten}
 use Rattle.replica_store.specs.Segments.{StoreForm}
 use Rattle.replica_store.proofs.Forgetting.{all_live, all_proper, acts_after, acts_same, live_after, idle_live, IsSoundStore-live}
 use Rattle.replica_store.proofs.store.Store.drop_dead.Goals as goal

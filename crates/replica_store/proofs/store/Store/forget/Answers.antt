@@ -2,7 +2,7 @@
 use Rattle.std.specs.Prelude.{◌≡◌, ◌-◌}
 use Rattle.std.proofs.Common.{sym, ap, ◌∙◌}
 use Rattle.std.specs.FinMap as map
-use Rattle.forgotten_batches.specs.Forgotten.{forgotten}
+use Rattle.replica_store.specs.Forgotten.{forgotten}
 use Rattle.replica_store.specs.Replica.{Replica, entries_of}
 use Rattle.replica_store.proofs.ForgetCounts.{rows_in, dropped_batches, dropped_rows}
 use Rattle.replica_store.proofs.MergeAnswers.{made_of}

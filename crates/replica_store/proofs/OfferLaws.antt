@@ -13,10 +13,10 @@ use Rattle.table_model.specs.declared.names.BatchName.{BatchName}
 use Rattle.table_model.specs.declared.names.RowName.{RowName}
 use Rattle.table_model.proofs.NameOrder.{names_total, row_names_total}
 use Rattle.table_model.proofs.Joins.{or_else, get-union, same_states, same_maps}
-use Rattle.forgotten_batches.specs.Forgotten.{has_live_row, forgotten, IsRestOf}
-use Rattle.forgotten_batches.specs.ForgetHistory.{left_out, spent_names, IsSealed, ForgetOfferLaws}
-use Rattle.forgotten_batches.proofs.Rests.{Sorted-filter, find-filter, kept, get-forgotten, deleted-forgotten, alive, Rows}
-use Rattle.forgotten_batches.proofs.Histories.{get-left_out, deleted-left_out}
+use Rattle.replica_store.specs.Forgotten.{has_live_row, forgotten, IsRestOf}
+use Rattle.replica_store.specs.ForgetHistory.{left_out, spent_names, IsSealed, ForgetOfferLaws}
+use Rattle.replica_store.proofs.Rests.{Sorted-filter, find-filter, kept, get-forgotten, deleted-forgotten, alive, Rows}
+use Rattle.replica_store.proofs.Histories.{get-left_out, deleted-left_out}
 
 abbrev Entry : Type 0
 Entry = BatchName × Batch

@@ -10,7 +10,7 @@ use Rattle.table_model.specs.Table.{Table, row_limit}
 use Rattle.table_model.specs.Meaning.{answer_of}
 use Rattle.table_model.specs.Operation.{Operation, Insert, Among, AreAgreeing, SameOperations, state_of}
 use Rattle.table_model.specs.declared.names.BatchName.{BatchName}
-use Rattle.forgotten_batches.specs.Forgotten.{has_live_row, forgotten, IsRestOf}
+use Rattle.replica_store.specs.Forgotten.{has_live_row, forgotten, IsRestOf}
 
 -- what a summary does not list of a state: the batches whose names aren't listed, and all deletions
 unfoldable pub left_out : set.FinSet name_cmp → State → State

@@ -19,7 +19,7 @@ use Rattle.table_model.proofs.NameOrder.{names_total, row_names_total, exact_nam
 use Rattle.table_model.proofs.Operations.{same_name, state_of-same}
 use Rattle.table_model.proofs.Joins.{or_else, get-union, same_states, same_maps, join-agree}
 use Rattle.table_model.proofs.Passed.{first_of_both, second_of_both, less_is}
-use Rattle.forgotten_batches.specs.Forgotten.{has_live_row, forgotten, IsRestOf, ForgetLaws}
+use Rattle.replica_store.specs.Forgotten.{has_live_row, forgotten, IsRestOf, ForgetLaws}
 
 abbrev pub Rows : Type 0
 Rows = set.FinSet row_name_cmp

@@ -17,9 +17,9 @@ use Rattle.table_model.specs.declared.names.RowName.{RowName}
 use Rattle.table_model.proofs.NameOrder.{names_total, row_names_total, exact_row_names}
 use Rattle.table_model.proofs.Operations.{same_name, state_of-same, Among-find, found-Among}
 use Rattle.table_model.proofs.Joins.{or_else, find-append, get-union, same_states, same_maps}
-use Rattle.forgotten_batches.specs.Forgotten.{has_live_row, forgotten, IsRestOf}
-use Rattle.forgotten_batches.specs.ForgetHistory.{History, New, Takes, Forgets, Merges, Pulls, taken, state_after, left_out, IsAsked, TookListed, ForgetHistoryLaws}
-use Rattle.forgotten_batches.proofs.Rests.{forgets, nothing, then_more, least, live, answers, joins, dead_first, dead_second, rows_at}
+use Rattle.replica_store.specs.Forgotten.{has_live_row, forgotten, IsRestOf}
+use Rattle.replica_store.specs.ForgetHistory.{History, New, Takes, Forgets, Merges, Pulls, taken, state_after, left_out, IsAsked, TookListed, ForgetHistoryLaws}
+use Rattle.replica_store.proofs.Rests.{forgets, nothing, then_more, least, live, answers, joins, dead_first, dead_second, rows_at}
 
 inserts-append : (ops more : List Operation) → inserts_of (ops ++ more) ≡ inserts_of ops ++ inserts_of more
 inserts-append [] more = refl
