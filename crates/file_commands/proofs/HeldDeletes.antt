@@ -5,11 +5,11 @@ use Rattle.table_model.specs.declared.names.RowName.{RowName}
 use Rattle.table_model.specs.declared.refusal.Refusal.{Refusal}
 use Rattle.table_model.specs.declared.refusal.Refusal.TheVariants.{Memory}
 use Rattle.catalogue_join.specs.RowRange.{rows_between}
-use Rattle.replica_store.specs.Replica.{Replica, SaysChange, delete_fault, deleted_rows, unless_fault, with_deleted}
+use Rattle.replica_store.specs.Replica.{Replica, SaysChange, delete_fault, deleted_rows, holds, unless_fault, with_deleted}
 use Rattle.replica_changes.specs.CommandForms.{AnswerForm, DeleteRows, OfDeleteRows, adding, answer_of, has_changed, tagged}
 use Rattle.replica_changes.specs.Commands.{Puts}
 use Rattle.replica_changes.specs.declared.command.Answer.{Answer}
-use Rattle.file_commands.specs.HeldDeletes.{deleted_if_held, holds}
+use Rattle.file_commands.specs.HeldDeletes.{deleted_if_held}
 use Rattle.file_commands.specs.Rewriting.{Rewrites}
 use Rattle.file_commands.specs.declared.held_rows.HeldRows.{HeldRows}
 use Rattle.file_commands.proofs.Rewrites.{ok_one}

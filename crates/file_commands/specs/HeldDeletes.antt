@@ -1,15 +1,9 @@
 -- Deleting rows of a batch only if it is held.
 use Rattle.std.specs.Prelude.{ℕ, Bool, true, false, cond, Result, Ok}
-use Rattle.std.specs.FinSet as set
-use Rattle.table_model.specs.declared.names.BatchName.{BatchName}
 use Rattle.table_model.specs.declared.names.RowName.{RowName}
 use Rattle.table_model.specs.declared.refusal.Refusal.{Refusal}
 use Rattle.catalogue_join.specs.RowRange.{rows_between}
-use Rattle.replica_store.specs.Replica.{Replica, delete_fault, names_of, unless_fault, with_deleted}
-
--- whether a replica holds a batch
-abbrev pub holds : Replica → BatchName → Bool
-holds r name = set.contains (names_of r.state.batches) name
+use Rattle.replica_store.specs.Replica.{Replica, delete_fault, holds, unless_fault, with_deleted}
 
 -- the ordinals of a batch from the first's to the last are deleted if the batch is held; and whether it is
 abbrev pub deleted_if_held : Replica → RowName → ℕ → Result (Bool × Replica) Refusal

@@ -1,13 +1,13 @@
 //! Deleting rows of a file's batch only if the file holds the batch.
 ghost use Rattle.std.specs.Prelude.{◌≡◌, ◌≢◌, [], Some, Ok, IfOk, IfErr, MatchResult};
 ghost use Rattle.std.specs.String.{string_bytes};
-ghost use Rattle.table_model.specs.declared.refusal.Refusal.TheVariants.{Memory, WriteFault};
+ghost use Rattle.table_model.specs.declared.refusal.Refusal.TheVariants.{WriteFault};
 ghost use Rattle.file_protocol.specs.Owning.{GivesBack};
 ghost use Rattle.file_protocol.specs.Safe.{StaysOld};
 ghost use Rattle.replica_changes.specs.Commands.{Changes};
 ghost use Rattle.file_commands.specs.CrashLaws.{BeforeOrAfter, HasAnswered};
 ghost use Rattle.file_commands.specs.Refused.{IsRefusedOver, IsWhyRefused};
-ghost use Rattle.file_commands.specs.HeldDeletes.{deleted_if_held, holds};
+ghost use Rattle.file_commands.specs.HeldDeletes.{deleted_if_held};
 
 use crate::Outcome;
 use crate::changing::made;
@@ -15,9 +15,8 @@ use crate::rewriting::opened;
 use crate::under_lock::{finish, leave, read_file};
 use file_protocol::{FileFolder, Place};
 use replica_changes::Command;
-use replica_store::Store;
 use std::alloc::Global;
-use table_model::{BatchName, Refusal, RowName};
+use table_model::{Refusal, RowName};
 
 /// What a delete of rows of a batch that has to be held did.
 #[derive(Clone, Copy, Debug, PartialEq, Eq)]
@@ -26,14 +25,6 @@ pub struct HeldRows {
     pub is_held: bool,
     /// Whether one of the rows wasn't deleted before, so that the file has changed.
     pub is_changed: bool,
-}
-
-/// Whether a store holds a batch.
-fn holds(alloc: Global, store: &Store, name: BatchName) -> Result<bool, Refusal>
-    ensures { MatchResult result (λ held. held ≡ holds store.now.replica name) (λ e. e ≡ Memory) }
-{
-    let summary = store.summary(alloc)?;
-    Ok(summary.names().holds(name))
 }
 
 /// What a delete of rows of a batch that has to be held answers of the file of these bytes, and the bytes of the file after, which are
@@ -49,7 +40,7 @@ fn held_rows_deleted(
         (λ e. IsRefusedOver (λ r. deleted_if_held r first last) file.items e) }
 {
     let store = opened(alloc, file)?;
-    let is_held = holds(alloc, &store, first.batch)?;
+    let is_held = store.holds(first.batch);
     let (deleted, new) = made(alloc, store, Command::DeleteRows { first, last })?;
     if is_held {
         let answer = HeldRows {

@@ -42,6 +42,10 @@ entries_of r = map.entries r.state.batches
 unfoldable pub names_of : {X : Type 0} → map.FinMap name_cmp X → set.FinSet name_cmp
 names_of m = set.from_list (map.keys m)
 
+-- whether a replica holds a batch
+abbrev pub holds : Replica → BatchName → Bool
+holds r name = set.contains (names_of r.state.batches) name
+
 -- entries in ascending order of name, with the set of their names
 pub record AreKept {X : Type 0} (es : List (BatchName × X)) (held : set.FinSet name_cmp) : Type 0 where
   pub sorted : T (map.is_sorted name_cmp es)

@@ -14,7 +14,7 @@ ghost use Rattle.replica_store.specs.Forgets.{live_segments, forgotten_batches, 
 ghost use Rattle.replica_store.specs.Brought.{IsBrought, unheld_state};
 ghost use Rattle.replica_store.specs.Exchange.{summary_of, offered, unlisted, unlisted_state, applied, opened};
 ghost use Rattle.replica_store.specs.Parted.{AreParted};
-ghost use Rattle.replica_store.specs.Replica.{Replica, IsWithinLimits, new_replica, entries_of, names_of, appended, inserted, merged, merge_fault, next_name, place_for, replica_with, with_batch, with_join, conflict_with, number_after, greatest_number, joined_with, deleted_rows, delete_fault, deleted_names, names_fault, recoded_rows, recode_fault, batch_limit, SaysChange};
+ghost use Rattle.replica_store.specs.Replica.{Replica, IsWithinLimits, new_replica, entries_of, names_of, appended, inserted, merged, merge_fault, next_name, place_for, replica_with, with_batch, with_join, conflict_with, number_after, greatest_number, joined_with, deleted_rows, delete_fault, deleted_names, names_fault, recoded_rows, recode_fault, batch_limit, SaysChange, holds};
 ghost use Rattle.replica_store.specs.Segments.{rows_in, recoded_in, AreStored, IsStored, IsSoundStore, HasVector};
 ghost use Rattle.segment_core.specs.declared.coding.Coding.{Coding};
 ghost use Rattle.replica_store.specs.declared.inserted.Inserted.TheVariants.{New, Already};
@@ -172,6 +172,13 @@ impl Store {
         ensures { self.now.replica.state.batches ≡ rows_in self.now.segments }
     {
         self.parts();
+    }
+
+    /// Whether the batch of this name is held. It takes a binary search.
+    pub fn holds(&self, name: BatchName) -> bool
+        ensures { result ≡ holds self.now.replica name }
+    {
+        self.batches.names().holds(name)
     }
 
     /// The deleted rows, held here or not.
