@@ -171,6 +171,18 @@ def a_part_that_is_there_already_is_synced_by_the_handle_that_read_it(room):
     assert len(re.findall(r"openat\(.*\.lanes\", O_RDONLY", put)) == 1
 
 
+def a_merge_opens_each_part_once(room):
+    make_folder(room)
+    for rows in (b"1,1\n", b"2,2\n", b"3,3\n", b"4,4\n"):
+        room.ok("import", "--no-header", "d", "-", given=rows)
+    trace, status, err = traced(room, "merge", "all.lanes", "d")
+    assert status == 0, f"it said {err!r}"
+    opened = re.findall(r"openat\(.*\"(d/[0-9a-f]{32}\.lanes)\", O_RDONLY", trace)
+    assert sorted(opened) == sorted("d/" + name for name in parts_of(room)), f"it opened {opened}"
+    folders = re.findall(r"openat\(.*\"d\", O_RDONLY", trace)
+    assert len(folders) < len(opened), f"it opened the folder {len(folders)} times"
+
+
 def a_folder_is_made_all_at_once(room):
     os.mkdir(room.path("e"))
     trace, status, err = traced(room, "create", "e/d/", "T", "A", "SMALLINT")
@@ -633,6 +645,7 @@ TESTS = [
     a_pack_that_is_not_known_to_be_on_the_disk_removes_nothing,
     a_pack_looks_under_the_lock_at_its_part_before_it_removes,
     a_part_that_is_there_already_is_synced_by_the_handle_that_read_it,
+    a_merge_opens_each_part_once,
     a_folder_is_made_all_at_once,
     a_failed_call_leaves_the_folder_as_it_was,
     a_folder_that_can_not_be_synced_is_told_and_the_part_is_there,

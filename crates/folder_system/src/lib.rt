@@ -15,4 +15,4 @@ mod temporary;
 pub use fault::FolderFault;
 pub use making::{MakeFault, make};
 pub use names::{is_link, path_in, temporary_name};
-pub use system::SystemFolder;
+pub use system::{SystemFolder, read_part};

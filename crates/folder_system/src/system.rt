@@ -160,6 +160,19 @@ fn read_in<R: Files<File = File> + AllocGlobal>(
     Ok(Some((file, bytes)))
 }
 
+/// The bytes of the file of a name in the folder of a path, if there is one, for who only reads it. The folder is not opened, and no call
+/// is noted.
+pub fn read_part<R: Files<File = File> + AllocGlobal>(
+    rt: &R,
+    folder: &str,
+    name: &str,
+) -> io::Result<Option<Vec<u8>>> {
+    match read_in(rt, rt.alloc(), folder, name)? {
+        Some((_file, bytes)) => Ok(Some(bytes)),
+        None => Ok(None),
+    }
+}
+
 /// Syncs a folder, unless a sync of it has failed before: what that should have had on the disk the system may take for synced since.
 fn settled(folder: &File, settles: bool) -> io::Result<()>
     ensures { OnOk result (settles ≡ true) }

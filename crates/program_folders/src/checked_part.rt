@@ -1,8 +1,7 @@
 //! A part that is compared with its name before anything is read from it.
 
 use folder_parts::is_part;
-use folder_protocol::Folder;
-use folder_system::SystemFolder;
+use folder_system::read_part;
 use program_inputs::Host;
 use std::io::{self, ErrorKind, Read};
 
@@ -74,8 +73,7 @@ impl<'r, 'n, R: Host> CheckedPart<'r, 'n, R> {
 
     /// The bytes of the file, if it is there.
     fn read_whole(&self) -> io::Result<Option<Vec<u8>>> {
-        let mut folder = SystemFolder::open(self.rt, self.folder)?;
-        folder.read(self.rt.alloc(), self.name)
+        read_part(self.rt, self.folder, self.name)
     }
 }
 
