@@ -26,3 +26,8 @@ pub mod FirstOthers
 pub mod BatchDifferences
 pub mod Judgements
 pub mod FirstFiles
+pub mod Passed
+pub mod PassedAsRead
+pub mod NamesInOrder
+pub mod SkimmedAsRead
+pub mod RangesRead

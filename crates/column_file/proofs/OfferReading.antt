@@ -72,7 +72,7 @@ precedes_trans x y z h k = transitive x.origin.0 x.number.0 y.origin.0 y.number.
 less_numbers : (a b c d : ℕ) → (ltb a c || (eqb a c && ltb b d)) ≡ true → is_lt (ordering_then (nat_cmp a c) (nat_cmp b d)) ≡ true
 less_numbers a b c d h = grind (arith, nat_tests)
 
-precedes_less : (x y : BatchName) → precedes x y ≡ true → is_lt (name_cmp x y) ≡ true
+pub precedes_less : (x y : BatchName) → precedes x y ≡ true → is_lt (name_cmp x y) ≡ true
 precedes_less x y h = less_numbers x.origin.0 x.number.0 y.origin.0 y.number.0 h
 
 -- a valid batch comes after the ones before it
@@ -82,14 +82,14 @@ batch_after t front e valid =
     let v = and_parts (proper_name.valid e.0 && is_after (map name_of front) e.0) (row_count.valid e.1.0 && (batch_columns t e.1.0).valid e.1.1) valid in
     (and_parts (proper_name.valid e.0) (is_after (map name_of front) e.0) v.0).1
 
-abbrev Above : Entry → List Entry → Type 0
+abbrev pub Above : Entry → List Entry → Type 0
 Above x es = AllByRecursion (λ (e : Entry). precedes x.0 e.0 ≡ true) es
 
 higher : (x y : Entry) (es : List Entry) → precedes x.0 y.0 ≡ true → Above y es → Above x es
 higher x y [] h a = tt
 higher x y (e ∷ es) h a = (precedes_trans x.0 y.0 e.0 h a.0, higher x y es h a.1)
 
-above : (t : Table) (front : List Entry) (x : Entry) (es : List Entry) → valid_all (batch t) (front ++ x ∷ []) es ≡ true → Above x es
+pub above : (t : Table) (front : List Entry) (x : Entry) (es : List Entry) → valid_all (batch t) (front ++ x ∷ []) es ≡ true → Above x es
 unfolding valid_all
 above t front x [] valid = tt
 above t front x (e ∷ es) valid =

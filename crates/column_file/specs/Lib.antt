@@ -7,3 +7,5 @@ pub mod Files
 pub mod FirstVersion
 pub mod Comparing
 pub mod Differing
+pub mod Passing
+pub mod Skimming

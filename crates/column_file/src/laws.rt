@@ -3,6 +3,7 @@ ghost use Rattle.column_file.specs.ContainerBytes.{ContainersComeBack};
 ghost use Rattle.column_file.specs.Files.{FilesOpen, FilesOpenToOne, OffersAreReadAgain, SameFileSameState, SummariesAreReadAgain};
 ghost use Rattle.column_file.specs.FirstVersion.{VersionsAreWritten, FirstFilesStay, FirstFilesHold, FirstFilesOpen, FirstOffersAreRead, FirstSummariesAreRead, FirstFilesComeBack, FirstOffersComeBack, FirstSummariesComeBack};
 ghost use Rattle.column_file.specs.SchemaBytes.{SchemasComeBack};
+ghost use Rattle.column_file.specs.Skimming.{FilesAreSkimmed};
 ghost use Rattle.column_file.specs.SummaryBytes.{SummariesComeBack};
 
 /// The law that a schema and its bytes give each other back, and that only a schema is read.
@@ -55,4 +56,9 @@ pub fn first_version_accepts_its_own()
     ensures files { FirstFilesComeBack }
     ensures offers { FirstOffersComeBack }
     ensures summaries { FirstSummariesComeBack }
+{}
+
+/// The law that of bytes that open as a file exactly its schema, the names of its batches and its deleted rows are skimmed.
+pub fn files_are_skimmed()
+    ensures { FilesAreSkimmed }
 {}

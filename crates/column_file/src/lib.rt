@@ -11,8 +11,12 @@ mod laws;
 mod offer_reading;
 mod offer_writing;
 mod opening;
+mod passing;
+mod ranges;
 mod schema_reading;
 mod schema_writing;
+mod skimmed_names;
+mod skimming;
 mod summary_reading;
 mod summary_writing;
 mod type_tags;
@@ -21,14 +25,15 @@ pub use canonical_writing::export;
 pub use container_reading::CONTAINER;
 pub use input::read_input;
 pub use laws::{
-    containers_and_bytes_come_back, files_and_states_come_back, first_version_accepts_its_own,
-    first_version_is_kept, offers_and_summaries_are_read_again, schemas_and_bytes_come_back,
-    summaries_and_bytes_come_back,
+    containers_and_bytes_come_back, files_and_states_come_back, files_are_skimmed,
+    first_version_accepts_its_own, first_version_is_kept, offers_and_summaries_are_read_again,
+    schemas_and_bytes_come_back, summaries_and_bytes_come_back,
 };
 pub use offer_reading::read_offer;
 pub use offer_writing::write_offer;
 pub use opening::{Checked, check, open, open_bytes};
 pub use schema_reading::read_schema;
 pub use schema_writing::write_schema;
+pub use skimming::{Skimmed, skim};
 pub use summary_reading::{read_head, read_name_count, read_summary};
 pub use summary_writing::write_summary;

@@ -9,24 +9,11 @@ ghost use Rattle.column_file.specs.Input.{Judges, ReadsWhole, is_refusal_of_offe
 
 use crate::container_reading::read_container;
 use crate::input::read_input;
-use catalogue_join::Tombs;
+use crate::ranges::tombs_of;
 use replica_store::Offer;
-use std::alloc::{AllocError, Global};
+use std::alloc::Global;
 use std::io::Read;
-use table_model::{Counted, Refusal, RowName};
-
-/// The set of the rows of some ranges.
-pub(crate) fn tombs_of(alloc: Global, deleted: &[(RowName, u16)]) -> Result<Tombs, AllocError>
-    requires { All IsRangeGiven deleted.now }
-    ensures { IfOk result (λ tombs. tombs ≡ rows_in deleted.now) }
-{
-    let mut tombs = Tombs::new(alloc);
-    for index in 0..deleted.len() {
-        let (first, last) = deleted[index];
-        tombs.insert(first, last)?;
-    }
-    Ok(tombs)
-}
+use table_model::{Counted, Refusal};
 
 /// The offer that bytes are. The refusal is their first fault, or `Memory`, which can come in place of any of them.
 pub(crate) fn offer_in(alloc: Global, bytes: &[u8]) -> Result<Offer, Refusal>

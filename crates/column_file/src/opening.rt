@@ -15,7 +15,7 @@ use crate::container_reading::read_container;
 use crate::container_writing::write_container;
 use crate::differing::judge_batches;
 use crate::input::read_input;
-use crate::offer_reading::tombs_of;
+use crate::ranges::tombs_of;
 use replica_store::{Offer, Store};
 use segment_core::Segment;
 use std::alloc::Global;

@@ -102,7 +102,7 @@ fn is_after(front: &[BatchName], name: BatchName) -> bool
 
 /// The name at the front, after the names before it, and what comes after it.
 #[tactic(auto, unfolding(crate::specs::SummaryBytes::batch_name))]
-fn read_batch_name<'a>(
+pub(crate) fn read_batch_name<'a>(
     total: usize,
     bytes: &'a [u8],
     front: &[BatchName],

@@ -16,7 +16,7 @@ use Rattle.table_model.proofs.Joins.{get-union, or_else}
 use Rattle.table_model.proofs.NameOrder.{row_names_total}
 use Rattle.catalogue_join.specs.RowRange.{RowRange, rows_in}
 use Rattle.segment_core.specs.Format.{AreBytes}
-use Rattle.part_skim.specs.Skimming.{FilesAreSkimmed, skim_in}
+use Rattle.column_file.specs.Skimming.{FilesAreSkimmed, skim_in}
 use Rattle.folder_model.specs.Call.{Call, Read, Settled}
 use Rattle.folder_model.specs.Disk.{Among}
 use Rattle.folder_model.specs.Parts.{Parts}

@@ -9,7 +9,7 @@ ghost use Rattle.folder_commands.specs.Relying.{AreRelied, IsIn, IsNoneMet, Item
 
 use catalogue_join::Held;
 use folder_parts::LoadNames;
-use part_skim::{Skimmed, skim};
+use column_file::{Skimmed, skim};
 use std::alloc::Global;
 use table_model::{BatchName, Refusal};
 

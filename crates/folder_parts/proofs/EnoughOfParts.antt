@@ -17,7 +17,7 @@ use Rattle.table_model.proofs.Operations.{same_name}
 use Rattle.segment_core.specs.Format.{AreBytes}
 use Rattle.segment_core.proofs.FormatLaws.{bind_ok, ok_is}
 use Rattle.column_file.specs.Files.{canonical_read}
-use Rattle.part_skim.specs.Skimming.{FilesAreSkimmed, IsSkimmed, skim_in}
+use Rattle.column_file.specs.Skimming.{FilesAreSkimmed, IsSkimmed, skim_in}
 use Rattle.replica_store.specs.Exchange.{OfferForm, offering, opened}
 use Rattle.replica_store.specs.Replica.{Replica, batch_limit, merged, names_of, with_join}
 use Rattle.replica_store.specs.Segments.{Segments, rows_entries, rows_in}

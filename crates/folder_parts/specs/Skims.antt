@@ -11,7 +11,7 @@ use Rattle.table_model.specs.declared.names.BatchName.{BatchName}
 use Rattle.table_model.specs.declared.refusal.Refusal.{Refusal}
 use Rattle.table_model.specs.declared.refusal.Refusal.TheVariants.{Memory}
 use Rattle.column_file.specs.Input.{IsUnread}
-use Rattle.part_skim.specs.Skimming.{skim_in}
+use Rattle.column_file.specs.Skimming.{skim_in}
 use Rattle.replica_reports.specs.Held.{held_in}
 use Rattle.replica_store.specs.Replica.{Replica, batch_limit}
 use Rattle.replica_changes.specs.Loads.{LoadForm, is_one_of}

@@ -11,7 +11,7 @@ ghost use Rattle.folder_parts.specs.Skims.{HasNoneOf, IsOpenedOr, SkimsDeletions
 
 use crate::fault::PartFault;
 use crate::joining::open_part;
-use part_skim::skim;
+use column_file::skim;
 use replica_store::{Offer, Store};
 use std::alloc::Global;
 use table_model::{BatchName, Origin, Refusal};

@@ -1,7 +1,7 @@
 -- A part that has none of the names has nothing else that matters.
 use Rattle.std.proofs.Common.{ap, sym, ◌∙◌, arith, length}
 use Rattle.std.specs.List.{list_any}
-use Rattle.part_skim.proofs.SkimmedAsRead.{files_are_skimmed}
+use Rattle.column_file.proofs.SkimmedAsRead.{files_are_skimmed}
 use Rattle.replica_changes.specs.Loads.{is_one_of}
 use Rattle.segment_core.proofs.FormatLaws.{bytes_at}
 use Rattle.folder_parts.proofs.EnoughOfParts.{deletions_enough}

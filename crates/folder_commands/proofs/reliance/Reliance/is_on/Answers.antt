@@ -1,7 +1,7 @@
 -- What is skimmed is what the bytes hold.
 use Rattle.std.proofs.Common.{arith}
 use Rattle.segment_core.proofs.FormatLaws.{bytes_at}
-use Rattle.part_skim.proofs.SkimmedAsRead.{files_are_skimmed}
+use Rattle.column_file.proofs.SkimmedAsRead.{files_are_skimmed}
 use Rattle.folder_commands.proofs.Relied.{none_on}
 use Rattle.folder_commands.proofs.reliance.Reliance.is_on.Goals as goal
 

@@ -1,7 +1,0 @@
-use Rattle.std.proofs.Common.{◌≡◌, ◌-◌, [], map}
-use Rattle.segment_core.specs.Format.{read_all}
-use Rattle.column_file.specs.ContainerBytes.{deleted_of, range}
-use Rattle.column_file.proofs.container_reading.read_range_list.Given as goal
-
-abbrev pub invariant-loop : goal.invariant-loop
-invariant-loop l = read_all range (l.count - l.counter) (map deleted_of l.found.items) l.total l.rest ≡ read_all range l.count [] l.total l.bytes
