@@ -1,6 +1,7 @@
 pub mod Picked
 pub mod RowLemmas
 pub mod Walking
+pub mod BetweenSteps
 pub mod BitSteps
 pub mod NameSteps
 pub mod CellSteps

@@ -56,11 +56,3 @@ there-push s vectors kept one h = All-append (IsMasked s) vectors (kept ∷ []) 
 pub rows-more : (s : State) (vectors : List KeptVector) (i : ℕ) (kept : KeptVector) → i < length vectors → kept ≡ get_or vectors i kept → rows_in s (take (i + 1) vectors) ≡ rows_in s (take i vectors) ++ kept_in s kept
 rows-more s vectors i kept l is =
     ap (rows_in s) (take_more vectors i kept l) ∙ rows-push s (take i vectors) (get_or vectors i kept) ∙ ap (λ (k : KeptVector). rows_in s (take i vectors) ++ kept_in s k) (sym is)
-
--- no more rows are chosen than a state may have
-pub chosen-few : (table : Table) (condition : Option Formula) (s : State) → IsWithin table s → length (rows_where table condition s) ≤ state_row_limit
-unfolding rows_where live_rows
-chosen-few table condition s h =
-    let test : RowName × Cells → Bool = λ row. is_kept condition (at_row table.columns row.1) in
-    let alive : RowName × Cells → Bool = λ row. not (set.contains s.deleted row.0) in
-    omega (arith, h.rows, length-filter test (live_rows s), count_by-le-length test (live_rows s), length-filter alive (named_rows s), count_by-le-length alive (named_rows s))

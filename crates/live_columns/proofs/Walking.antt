@@ -1,4 +1,4 @@
--- The rows that are kept of all vectors in turn are those at which the condition is true.
+-- The rows that are kept of a batch's vectors in turn are those at which the condition is true.
 use Rattle.std.proofs.Common.{◌≡◌, ℕ, suc, ◌+◌, ◌*◌, ◌<◌, ◌≤◌, Bool, true, false, not, cond, ◌&&◌, List, [], ◌∷◌, ◌++◌, map, filter, Option, Some, None, length, sum_by, count_by, refl, sym, ap, subst, ◌∙◌, arith, append_assoc, append-nil}
 use Rattle.std.specs.FinSet as set
 use Rattle.std.specs.Global.{Vec}
@@ -18,7 +18,7 @@ use Rattle.query_eval.specs.declared.columns.VectorId.{VectorId}
 use Rattle.query_eval.proofs.Lifted.{chosen, dead_in, keeps, front_items, front_items-more, first_rows, first_rows-more, first_rows-all}
 use Rattle.live_columns.specs.Chosen.{AreThere, IsChosen, kept_in, named_at, picked, rows_in, rows_where}
 use Rattle.live_columns.specs.Walk.{kept_of, rows_of_batch}
-use Rattle.live_columns.proofs.RowLemmas.{chosen-few, rows-counted, rows-push}
+use Rattle.live_columns.proofs.RowLemmas.{rows-counted, rows-push}
 use Rattle.live_columns.proofs.Picked.{picked-none}
 
 -- ---- one vector
@@ -71,21 +71,6 @@ front_rows-all table condition s batch vectors h =
     ap (chosen (dead_in s batch) (keeps table condition) (named_row s batch) 0) (take_all (1024 * vectors) (batch_at s batch).1 (omega arith))
     ∙ sym (kept_named table condition s (batch_at s batch).0 0 (batch_at s batch).1)
 
--- ---- all batches
--- the rows of the first batches at which the condition is true
-abbrev pub first_where : Table → Option Formula → State → ℕ → List (RowName × Cells)
-first_where table condition s batches = filter (λ (row : RowName × Cells). keeps table condition row.1) (first_rows s batches)
-
-pub first_where-more : (table : Table) (condition : Option Formula) (s : State) (batch : ℕ) → batch < batch_count s →
-    first_where table condition s (batch + 1) ≡ first_where table condition s batch ++ rows_of_batch table condition s batch
-first_where-more table condition s batch h =
-    ap (filter (λ (row : RowName × Cells). keeps table condition row.1)) (first_rows-more s batch h)
-    ∙ filter-append (λ (row : RowName × Cells). keeps table condition row.1) (first_rows s batch) (batch_rows s batch)
-
-pub first_where-all : (table : Table) (condition : Option Formula) (s : State) (batches : ℕ) → batch_count s ≤ batches → first_where table condition s batches ≡ rows_where table condition s
-unfolding rows_where
-first_where-all table condition s batches h = ap (filter (λ (row : RowName × Cells). keeps table condition row.1)) (first_rows-all s batches h)
-
 -- ---- what a step of the walk leaves
 -- the mask of a vector has its places
 pub kept-places : (table : Table) (condition : Option Formula) (s : State) (id : VectorId) (mask : List Bool) → mask ≡ kept_mask table condition (vector_of s id) → length mask ≡ 1024
@@ -103,28 +88,3 @@ batch-step table t condition s r batch vector old now next within same_table sam
     (subst (λ (y : Table). rows_in r next ≡ rows_in r now ++ kept_of y condition r id) same_table here) in
     step ∙ ap (λ l. l ++ kept_of table condition s id) before ∙ append_assoc (rows_in s old) (front_rows table condition s batch vector) (kept_of table condition s id)
     ∙ ap (λ l. rows_in s old ++ l) (sym (front_rows-more table condition s batch vector within))
-
--- one batch more
-pub where-step : (table t : Table) (condition : Option Formula) (s r : State) (batch : ℕ) (now next : List KeptVector) → batch < batch_count s → t ≡ table → r ≡ s →
-    rows_in s now ≡ first_where table condition s batch → rows_in r next ≡ rows_in r now ++ rows_of_batch t condition r batch → rows_in s next ≡ first_where table condition s (batch + 1)
-where-step table t condition s r batch now next within same_table same_state before here =
-    let step : rows_in s next ≡ rows_in s now ++ rows_of_batch table condition s batch =
-    subst (λ (x : State). rows_in x next ≡ rows_in x now ++ rows_of_batch table condition x batch) same_state
-    (subst (λ (y : Table). rows_in r next ≡ rows_in r now ++ rows_of_batch y condition r batch) same_table here) in
-    step ∙ ap (λ l. l ++ rows_of_batch table condition s batch) before ∙ sym (first_where-more table condition s batch within)
-
--- how many rows masks have is how many rows are chosen, which is few
-pub walked-count : (table : Table) (condition : Option Formula) (s : State) (vectors : List KeptVector) (batches : ℕ) → batch_count s ≤ batches → AreThere s vectors → rows_in s vectors ≡ first_where table condition s batches →
-    sum_by (λ kept. count_by (λ row. row) kept.rows) vectors ≡ length (rows_where table condition s)
-walked-count table condition s vectors batches end there rows = rows-counted s vectors there ∙ ap length (rows ∙ first_where-all table condition s batches end)
-
-pub all-chosen : (table : Table) (condition : Option Formula) (s : State) (vectors : Vec KeptVector) (batches count : ℕ) → IsWithin table s → batch_count s ≤ batches → AreThere s vectors.items → rows_in s vectors.items ≡ first_where table condition s batches →
-    count ≡ sum_by (λ kept. count_by (λ row. row) kept.rows) vectors.items → IsChosen s (rows_where table condition s) (record { vectors = vectors; count = count })
-all-chosen table condition s vectors batches count within end there rows counted =
-    let all : count ≡ length (rows_where table condition s) = counted ∙ walked-count table condition s vectors.items batches end there rows in
-    record {
-      there = there;
-      are = rows ∙ first_where-all table condition s batches end;
-      count = all;
-      few = omega (arith, all, chosen-few table condition s within);
-    }

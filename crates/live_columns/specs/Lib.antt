@@ -1,3 +1,4 @@
+pub mod Between
 pub mod Bits
 pub mod Chosen
 pub mod Columns

@@ -13,4 +13,4 @@ pub use cells::cells_into;
 pub use choice::{Choice, Unchosen, choose};
 pub use chosen::ChosenRows;
 pub use column::{stride_of, write_columns};
-pub use walk::rows_where;
+pub use walk::{BatchRange, rows_between, rows_where};
