@@ -8,6 +8,7 @@ mod container_writing;
 mod differing;
 mod input;
 mod laws;
+mod length;
 mod offer_reading;
 mod offer_writing;
 mod opening;
@@ -29,6 +30,7 @@ pub use laws::{
     first_version_accepts_its_own, first_version_is_kept, offers_and_summaries_are_read_again,
     schemas_and_bytes_come_back, summaries_and_bytes_come_back,
 };
+pub use length::Length;
 pub use offer_reading::read_offer;
 pub use offer_writing::write_offer;
 pub use opening::{Checked, check, open, open_bytes};

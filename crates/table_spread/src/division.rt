@@ -2,9 +2,9 @@
 ghost use Rattle.std.specs.Prelude.{◌≡◌, ◌≤◌, ◌<◌, ◌-◌, true};
 ghost use Rattle.std.specs.FinMap as map;
 
+use column_file::Length;
 use replica_store::Store;
 use segment_core::Segment;
-use std::io::{self, Write};
 use table_model::Counted;
 
 /// How the batches of a table are divided: how many shares there are, how many batches, and how many bytes these have.
@@ -48,31 +48,10 @@ impl Division {
     }
 }
 
-/// A writer that counts the bytes that it takes, and keeps none.
-#[derive(Drop)]
-struct Length {
-    bytes: u64,
-}
-
-impl Write for Length {
-    ghost use Rattle.std.specs.Prelude.{None};
-
-    ghost contents = { λ _. None };
-
-    fn write(&mut self, piece: &[u8]) -> io::Result<usize> {
-        self.bytes = self.bytes.saturating_add(piece.len() as u64);
-        Ok(piece.len())
-    }
-
-    fn flush(&mut self) -> io::Result<()> {
-        Ok(())
-    }
-}
-
 /// How many bytes the vectors of a batch have in a file.
 pub(crate) fn bytes_of(segment: &Segment) -> u64 {
-    let mut writer = Counted::new(Length { bytes: 0 });
+    let mut writer = Counted::new(Length::new());
     // A writer that counts never fails.
     let _ = segment.write_bytes(&mut writer);
-    writer.into_inner().bytes
+    writer.into_inner().bytes()
 }
