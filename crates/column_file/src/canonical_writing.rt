@@ -150,3 +150,19 @@ pub fn export<W: Write>(
         store.tombs().ranges(),
     )
 }
+
+/// The bytes of a store's canonical file, in memory. Only a want of memory is refused.
+pub fn export_bytes(alloc: Global, store: &Store) -> Result<Vec<u8>, AllocError>
+    ensures bytes { IfOk result (λ file. file.items ≡ canonical_file store.now.replica.schema store.now.replica.state) }
+    ensures file { IfOk result (λ _. HasFile store.now.replica.schema store.now.replica.state) }
+
+    // The bytes open to the store's schema and state.
+    ensures opens { IfOk result (λ file. OpensTo file.items store.now.replica.schema store.now.replica.state) }
+{
+    let mut writer = Counted::new(Vec::new(alloc));
+    match export(alloc, store, &mut writer) {
+        Ok(()) => Ok(writer.into_inner()),
+        // A write to memory fails only if memory runs out.
+        Err(_) => Err(AllocError),
+    }
+}

@@ -22,7 +22,7 @@ mod summary_reading;
 mod summary_writing;
 mod type_tags;
 
-pub use canonical_writing::export;
+pub use canonical_writing::{export, export_bytes};
 pub use container_reading::CONTAINER;
 pub use input::read_input;
 pub use laws::{

@@ -1,5 +1,5 @@
 //! The example of column_file's README, which has the same text.
-use column_file::{export, open};
+use column_file::{export_bytes, open};
 use replica_store::Store;
 use std::alloc::Global;
 use std::test::Fail;
@@ -13,9 +13,7 @@ fn export_and_open(alloc: Global) -> Result<(), Fail> {
     let mut rows = Rows::new(alloc);
     rows.push_row(&[Some(7)])?;
     here.append(alloc, &rows)?;
-    let mut writer = Counted::new(Vec::new(alloc));
-    export(alloc, &here, &mut writer)?;
-    let file = writer.into_inner();
+    let file = export_bytes(alloc, &here)?;
     let there = open(alloc, &mut Counted::new(file.as_slice()), Origin(2))?;
     agree(there.batches(), 1)
 }

@@ -3,11 +3,11 @@ ghost use Rattle.std.specs.Prelude.{◌≡◌, IfOk, IfErr, string_bytes};
 ghost use Rattle.table_model.specs.declared.refusal.Refusal.TheVariants.{Memory};
 ghost use Rattle.replica_reports.specs.Digests.{first_digits, held_digest};
 
-use column_file::export;
+use column_file::export_bytes;
 use replica_store::Store;
 use sha2::{Digest, Sha512};
 use std::alloc::{AllocError, Global};
-use table_model::{Counted, Refusal};
+use table_model::Refusal;
 
 /// How many bytes of a SHA-512 a digest has as digits.
 const DIGEST_BYTES: usize = 16;
@@ -29,12 +29,7 @@ pub fn held_digest(alloc: Global, store: &Store) -> Result<String, Refusal>
     ensures digest { IfOk result (λ digits. string_bytes digits ≡ held_digest store.now.replica) }
     ensures refused { IfErr result (λ e. e ≡ Memory) }
 {
-    let mut writer = Counted::new(Vec::new(alloc));
-    if export(alloc, store, &mut writer).is_err() {
-        // What grows in memory fails only if memory runs out.
-        return Err(Refusal::Memory);
-    }
-    let file = writer.into_inner();
+    let file = export_bytes(alloc, store)?;
     let digits = first_digits(alloc, &Sha512::digest(file.as_slice()))?;
     Ok(digits)
 }
