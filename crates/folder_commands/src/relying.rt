@@ -1,14 +1,14 @@
 //! How a part is put that relies on parts which the folder has.
 ghost use Rattle.std.specs.Prelude.{◌≡◌, Some, None, map, string_bytes, IfOk, IfSome, OnOk, OnErr};
 ghost use Rattle.folder_model.specs.Call.{lock_of};
-ghost use Rattle.folder_model.specs.Parts.{Parts, IsNoPart};
+ghost use Rattle.folder_model.specs.Parts.{Parts};
 ghost use Rattle.folder_model.specs.Turn.{IsStored};
 ghost use Rattle.folder_protocol.specs.Causes.{Fails, HasCall, LookCause, IsNamed};
 ghost use Rattle.folder_protocol.specs.Goes.{GoesInTurn};
 ghost use Rattle.folder_protocol.specs.Keeping.{AreKept};
+ghost use Rattle.folder_protocol.specs.Premises.{MayPut};
 ghost use Rattle.folder_protocol.specs.Linking.{GoesPlainly, LinksOnly, LinksNone, WasSo, Watches, Each, One};
 ghost use Rattle.folder_parts.specs.Covers.{folder_parts};
-ghost use Rattle.folder_parts.specs.PartName.{part_name};
 ghost use Rattle.folder_commands.specs.Relying.{AreLeft};
 
 use folder_protocol::{self, Folder, Outcome, Taker, keep_all};
@@ -39,13 +39,13 @@ pub fn keep_and_put<F: Folder>(
     bytes: &[u8],
 ) -> io::Result<Outcome>
     // Each call is in turn.
-    ensures in_turn { (parts : Parts) → name.now ≡ parts.name_of bytes.now → IsNoPart parts temporary.now → GoesInTurn parts (F.history folder.old) (F.history folder.new) }
+    ensures in_turn { (parts : Parts) → MayPut parts temporary.now name.now bytes.now → GoesInTurn parts (F.history folder.old) (F.history folder.new) }
     // Each part that it relies on is kept, or gone.
-    ensures kept { (parts : Parts) → name.now ≡ parts.name_of bytes.now → IsNoPart parts temporary.now → OnOk result (AreKept parts (map string_bytes relied.now) (F.history folder.old) (F.history folder.new)) }
+    ensures kept { (parts : Parts) → MayPut parts temporary.now name.now bytes.now → OnOk result (AreKept parts (map string_bytes relied.now) (F.history folder.old) (F.history folder.new)) }
     // Once the new part is on the disk it is stored.
     ensures stored { (parts : Parts) → name.now ≡ parts.name_of bytes.now → IfOk result (λ how. how ≡ Outcome.OnDisk → IsStored parts bytes.now (F.history folder.new)) }
     // So each batch and each deletion that it has, or that one of the others has, is in a part that is on the disk, or in one that was gone.
-    ensures left { name.now ≡ part_name bytes.now → IsNoPart folder_parts temporary.now → IfOk result (λ how. how ≡ Outcome.OnDisk → AreLeft bytes.now (map string_bytes relied.now) (F.history folder.old) (F.history folder.new)) }
+    ensures left { MayPut folder_parts temporary.now name.now bytes.now → IfOk result (λ how. how ≡ Outcome.OnDisk → AreLeft bytes.now (map string_bytes relied.now) (F.history folder.old) (F.history folder.new)) }
     // Any other answer has its cause: a sync that failed, no file, or other bytes; and so has an error: a call that failed.
     ensures cause { IfOk result (λ how. LookCause how name.now bytes.now (F.history folder.old) (F.history folder.new)) }
     ensures fails { OnErr result (HasCall Fails (F.history folder.old) (F.history folder.new)) }
@@ -71,13 +71,13 @@ pub fn keep_and_put_judged<F: Folder, T: Taker>(
     judge: &T,
 ) -> io::Result<Option<Outcome>>
     // Each call is in turn.
-    ensures in_turn { (parts : Parts) → name.now ≡ parts.name_of bytes.now → IsNoPart parts temporary.now → GoesInTurn parts (F.history folder.old) (F.history folder.new) }
+    ensures in_turn { (parts : Parts) → MayPut parts temporary.now name.now bytes.now → GoesInTurn parts (F.history folder.old) (F.history folder.new) }
     // Each part that it relies on is kept, or gone.
-    ensures kept { (parts : Parts) → name.now ≡ parts.name_of bytes.now → IsNoPart parts temporary.now → OnOk result (AreKept parts (map string_bytes relied.now) (F.history folder.old) (F.history folder.new)) }
+    ensures kept { (parts : Parts) → MayPut parts temporary.now name.now bytes.now → OnOk result (AreKept parts (map string_bytes relied.now) (F.history folder.old) (F.history folder.new)) }
     // Once the new part is on the disk it is stored.
-    ensures stored { (parts : Parts) → name.now ≡ parts.name_of bytes.now → IsNoPart parts temporary.now → IfOk result (λ answer. answer ≡ Some Outcome.OnDisk → IsStored parts bytes.now (F.history folder.new)) }
+    ensures stored { (parts : Parts) → MayPut parts temporary.now name.now bytes.now → IfOk result (λ answer. answer ≡ Some Outcome.OnDisk → IsStored parts bytes.now (F.history folder.new)) }
     // So each batch and each deletion that it has, or that one of the others has, is in a part that is on the disk, or in one that was gone.
-    ensures left { name.now ≡ part_name bytes.now → IsNoPart folder_parts temporary.now → IfOk result (λ answer. answer ≡ Some Outcome.OnDisk → AreLeft bytes.now (map string_bytes relied.now) (F.history folder.old) (F.history folder.new)) }
+    ensures left { MayPut folder_parts temporary.now name.now bytes.now → IfOk result (λ answer. answer ≡ Some Outcome.OnDisk → AreLeft bytes.now (map string_bytes relied.now) (F.history folder.old) (F.history folder.new)) }
     // Any other answer but None has its cause: a sync that failed, no file, or other bytes; and so has an error: a call that failed.
     ensures cause { IfOk result (λ answer. IfSome answer (λ how. LookCause how name.now bytes.now (F.history folder.old) (F.history folder.new))) }
     ensures fails { OnErr result (HasCall Fails (F.history folder.old) (F.history folder.new)) }

@@ -1,4 +1,5 @@
 pub mod Goes
+pub mod Premises
 pub mod Reads
 pub mod Causes
 pub mod Note

@@ -1,11 +1,12 @@
 //! How a part is put that is to go with all that are there.
 ghost use Rattle.std.specs.Prelude.{◌≡◌, ◌++◌, List, ℕ, true, false, Some, None, map, IfOk, IfSome, OnErr};
 ghost use Rattle.std.specs.String.{string_bytes};
-ghost use Rattle.folder_model.specs.Call.{Call, Exclusive, lock_of};
+ghost use Rattle.folder_model.specs.Call.{Call, lock_of};
 ghost use Rattle.folder_model.specs.Disk.{Among};
-ghost use Rattle.folder_model.specs.Parts.{Parts, IsNoPart};
-ghost use Rattle.folder_model.specs.Turn.{Ready, IsStored, stage_of};
+ghost use Rattle.folder_model.specs.Parts.{Parts};
+ghost use Rattle.folder_model.specs.Turn.{IsStored, stage_of};
 ghost use Rattle.folder_protocol.specs.Goes.{GoesInTurn};
+ghost use Rattle.folder_protocol.specs.Premises.{IsExclusive, IsWritten, MayPut, MayPlace};
 ghost use Rattle.folder_protocol.specs.Causes.{Fails, HasCall, LookCause, IsNamed};
 ghost use Rattle.folder_protocol.specs.Linking.{LinksOnly, LinksNone, WasSo, Watches, Each, One};
 
@@ -29,9 +30,9 @@ pub fn put_judged<F: Folder, T: Taker>(
     judge: &T,
 ) -> io::Result<Option<Outcome>>
     // Each call is in turn.
-    ensures in_turn { (parts : Parts) → name.now ≡ parts.name_of bytes.now → IsNoPart parts temporary.now → GoesInTurn parts (F.history folder.old) (F.history folder.new) }
+    ensures in_turn { (parts : Parts) → MayPut parts temporary.now name.now bytes.now → GoesInTurn parts (F.history folder.old) (F.history folder.new) }
     // Once it is on the disk it is stored.
-    ensures stored { (parts : Parts) → name.now ≡ parts.name_of bytes.now → IsNoPart parts temporary.now → IfOk result (λ answer. answer ≡ Some Outcome.OnDisk → IsStored parts bytes.now (F.history folder.new)) }
+    ensures stored { (parts : Parts) → MayPut parts temporary.now name.now bytes.now → IfOk result (λ answer. answer ≡ Some Outcome.OnDisk → IsStored parts bytes.now (F.history folder.new)) }
     // Any other answer but None has its cause: a sync that failed, no file, or other bytes; and so has an error: a call that failed.
     ensures cause { IfOk result (λ answer. IfSome answer (λ how. LookCause how name.now bytes.now (F.history folder.old) (F.history folder.new))) }
     ensures fails { OnErr result (HasCall Fails (F.history folder.old) (F.history folder.new)) }
@@ -65,8 +66,8 @@ fn lock_and_put<F: Folder, T: Taker>(
     bytes: &[u8],
     judge: &T,
 ) -> io::Result<Option<Outcome>>
-    ensures in_turn { (parts : Parts) → name.now ≡ parts.name_of bytes.now → IsNoPart parts temporary.now → stage_of parts (F.history folder.old) ≡ Ready temporary.now bytes.now → GoesInTurn parts (F.history folder.old) (F.history folder.new) }
-    ensures stored { (parts : Parts) → name.now ≡ parts.name_of bytes.now → stage_of parts (F.history folder.old) ≡ Ready temporary.now bytes.now → IfOk result (λ answer. answer ≡ Some Outcome.OnDisk → IsStored parts bytes.now (F.history folder.new)) }
+    ensures in_turn { (parts : Parts) → MayPlace parts temporary.now name.now bytes.now (F.history folder.old) → GoesInTurn parts (F.history folder.old) (F.history folder.new) }
+    ensures stored { (parts : Parts) → name.now ≡ parts.name_of bytes.now → IsWritten parts temporary.now bytes.now (F.history folder.old) → IfOk result (λ answer. answer ≡ Some Outcome.OnDisk → IsStored parts bytes.now (F.history folder.new)) }
     ensures cause { IfOk result (λ answer. IfSome answer (λ how. LookCause how name.now bytes.now (F.history folder.old) (F.history folder.new))) }
     ensures fails { OnErr result (HasCall Fails (F.history folder.old) (F.history folder.new)) }
     ensures named { IfOk result (λ answer. IfSome answer (λ how. IsNamed how name.now (F.history folder.old) (F.history folder.new))) }
@@ -98,14 +99,14 @@ fn look_and_put<F: Folder, T: Taker>(
     bytes: &[u8],
     judge: &T,
 ) -> io::Result<Option<Outcome>>
-    ensures in_turn { (parts : Parts) → name.now ≡ parts.name_of bytes.now → IsNoPart parts temporary.now → stage_of parts (F.history folder.old) ≡ Ready temporary.now bytes.now → lock_of (F.history folder.old) ≡ Some Exclusive → GoesInTurn parts (F.history folder.old) (F.history folder.new) }
-    ensures stored { (parts : Parts) → name.now ≡ parts.name_of bytes.now → stage_of parts (F.history folder.old) ≡ Ready temporary.now bytes.now → IfOk result (λ answer. answer ≡ Some Outcome.OnDisk → IsStored parts bytes.now (F.history folder.new)) }
+    ensures in_turn { (parts : Parts) → MayPlace parts temporary.now name.now bytes.now (F.history folder.old) → IsExclusive (F.history folder.old) → GoesInTurn parts (F.history folder.old) (F.history folder.new) }
+    ensures stored { (parts : Parts) → name.now ≡ parts.name_of bytes.now → IsWritten parts temporary.now bytes.now (F.history folder.old) → IfOk result (λ answer. answer ≡ Some Outcome.OnDisk → IsStored parts bytes.now (F.history folder.new)) }
     ensures cause { IfOk result (λ answer. IfSome answer (λ how. LookCause how name.now bytes.now (F.history folder.old) (F.history folder.new))) }
     ensures fails { OnErr result (HasCall Fails (F.history folder.old) (F.history folder.new)) }
     ensures named { IfOk result (λ answer. IfSome answer (λ how. IsNamed how name.now (F.history folder.old) (F.history folder.new))) }
-    ensures links { lock_of (F.history folder.old) ≡ Some Exclusive → LinksOnly (Watches (Each (T.passes judge.now))) (F.history folder.old) (F.history folder.new) }
-    ensures watched { lock_of (F.history folder.old) ≡ Some Exclusive → IfOk result (λ answer. IfSome answer (λ how. WasSo (Watches (Each (T.passes judge.now))) (F.history folder.old) (F.history folder.new))) }
-    ensures wanted { lock_of (F.history folder.old) ≡ Some Exclusive → IfOk result (λ answer. answer ≡ None → WasSo (Watches (One (T.wanted judge.now))) (F.history folder.old) (F.history folder.new)) }
+    ensures links { IsExclusive (F.history folder.old) → LinksOnly (Watches (Each (T.passes judge.now))) (F.history folder.old) (F.history folder.new) }
+    ensures watched { IsExclusive (F.history folder.old) → IfOk result (λ answer. IfSome answer (λ how. WasSo (Watches (Each (T.passes judge.now))) (F.history folder.old) (F.history folder.new))) }
+    ensures wanted { IsExclusive (F.history folder.old) → IfOk result (λ answer. answer ≡ None → WasSo (Watches (One (T.wanted judge.now))) (F.history folder.old) (F.history folder.new)) }
     ensures unlinked { IfOk result (λ answer. answer ≡ None → LinksNone (F.history folder.old) (F.history folder.new)) }
 {
     match is_judged(alloc, folder, judge) {
@@ -126,13 +127,13 @@ fn look_and_put<F: Folder, T: Taker>(
 
 /// Whether no name is wanted of a folder of which the exclusive lock is held.
 fn is_judged<F: Folder, T: Taker>(alloc: Global, folder: &mut F, judge: &T) -> io::Result<bool>
-    ensures in_turn { (parts : Parts) → lock_of (F.history folder.old) ≡ Some Exclusive → GoesInTurn parts (F.history folder.old) (F.history folder.new) }
+    ensures in_turn { (parts : Parts) → IsExclusive (F.history folder.old) → GoesInTurn parts (F.history folder.old) (F.history folder.new) }
     ensures follows { (calls : List Call) × (F.history folder.new ≡ calls ++ F.history folder.old) }
     ensures stays { (parts : Parts) → stage_of parts (F.history folder.new) ≡ stage_of parts (F.history folder.old) }
     ensures fails { OnErr result (HasCall Fails (F.history folder.old) (F.history folder.new)) }
     ensures links { LinksNone (F.history folder.old) (F.history folder.new) }
-    ensures watched { lock_of (F.history folder.old) ≡ Some Exclusive → IfOk result (λ passed. passed ≡ true → Watches (Each (T.passes judge.now)) (F.history folder.new)) }
-    ensures wanted { lock_of (F.history folder.old) ≡ Some Exclusive → IfOk result (λ passed. passed ≡ false → Watches (One (T.wanted judge.now)) (F.history folder.new)) }
+    ensures watched { IsExclusive (F.history folder.old) → IfOk result (λ passed. passed ≡ true → Watches (Each (T.passes judge.now)) (F.history folder.new)) }
+    ensures wanted { IsExclusive (F.history folder.old) → IfOk result (λ passed. passed ≡ false → Watches (One (T.wanted judge.now)) (F.history folder.new)) }
 {
     let listed = folder.list(alloc)?;
     Ok(wants_none(judge, listed.as_slice()))

@@ -1,9 +1,10 @@
 //! How a part is put into a folder.
-ghost use Rattle.std.specs.Prelude.{◌≡◌, List, ℕ, [], Some, OnOk, OnErr, IfOk};
-ghost use Rattle.folder_model.specs.Call.{Exclusive, lock_of};
+ghost use Rattle.std.specs.Prelude.{◌≡◌, List, ℕ, [], OnOk, OnErr, IfOk};
+ghost use Rattle.folder_model.specs.Call.{lock_of};
 ghost use Rattle.folder_model.specs.Parts.{Parts, IsNoPart};
-ghost use Rattle.folder_model.specs.Turn.{Filled, Ready, Guarded, IsStored, stage_of};
+ghost use Rattle.folder_model.specs.Turn.{Filled, IsStored, stage_of};
 ghost use Rattle.folder_protocol.specs.Goes.{GoesInTurn};
+ghost use Rattle.folder_protocol.specs.Premises.{IsExclusive, IsWritten, IsGuarded, MayPut, MayPlace};
 ghost use Rattle.folder_protocol.specs.Causes.{Fails, HasCall, LookCause, IsNamed};
 ghost use Rattle.folder_protocol.specs.Linking.{GoesPlainly, LinksOnly};
 
@@ -33,7 +34,7 @@ pub fn put<F: Folder>(
     bytes: &[u8],
 ) -> io::Result<Outcome>
     // Each call is in turn.
-    ensures in_turn { (parts : Parts) → name.now ≡ parts.name_of bytes.now → IsNoPart parts temporary.now → GoesInTurn parts (F.history folder.old) (F.history folder.new) }
+    ensures in_turn { (parts : Parts) → MayPut parts temporary.now name.now bytes.now → GoesInTurn parts (F.history folder.old) (F.history folder.new) }
     // Once it is on the disk it is stored.
     ensures stored { (parts : Parts) → name.now ≡ parts.name_of bytes.now → IfOk result (λ how. how ≡ Outcome.OnDisk → IsStored parts bytes.now (F.history folder.new)) }
     // Any other answer has its cause: a sync that failed, no file, or other bytes; and so has an error: a call that failed.
@@ -57,7 +58,7 @@ pub fn put<F: Folder>(
 pub fn write_new<F: Folder>(folder: &mut F, temporary: &str, bytes: &[u8]) -> io::Result<()>
     ensures in_turn { (parts : Parts) → IsNoPart parts temporary.now → GoesInTurn parts (F.history folder.old) (F.history folder.new) }
     ensures plain { GoesPlainly (F.history folder.old) (F.history folder.new) }
-    ensures ready { (parts : Parts) → OnOk result (stage_of parts (F.history folder.new) ≡ Ready temporary.now bytes.now) }
+    ensures ready { (parts : Parts) → OnOk result (IsWritten parts temporary.now bytes.now (F.history folder.new)) }
     ensures fails { OnErr result (HasCall Fails (F.history folder.old) (F.history folder.new)) }
 {
     folder.make(temporary)?;
@@ -91,8 +92,8 @@ pub fn place<F: Folder>(
     name: &str,
     bytes: &[u8],
 ) -> io::Result<Outcome>
-    ensures in_turn { (parts : Parts) → name.now ≡ parts.name_of bytes.now → IsNoPart parts temporary.now → stage_of parts (F.history folder.old) ≡ Ready temporary.now bytes.now → GoesInTurn parts (F.history folder.old) (F.history folder.new) }
-    ensures stored { (parts : Parts) → name.now ≡ parts.name_of bytes.now → stage_of parts (F.history folder.old) ≡ Ready temporary.now bytes.now → IfOk result (λ how. how ≡ Outcome.OnDisk → IsStored parts bytes.now (F.history folder.new)) }
+    ensures in_turn { (parts : Parts) → MayPlace parts temporary.now name.now bytes.now (F.history folder.old) → GoesInTurn parts (F.history folder.old) (F.history folder.new) }
+    ensures stored { (parts : Parts) → name.now ≡ parts.name_of bytes.now → IsWritten parts temporary.now bytes.now (F.history folder.old) → IfOk result (λ how. how ≡ Outcome.OnDisk → IsStored parts bytes.now (F.history folder.new)) }
     ensures cause { IfOk result (λ how. LookCause how name.now bytes.now (F.history folder.old) (F.history folder.new)) }
     ensures fails { OnErr result (HasCall Fails (F.history folder.old) (F.history folder.new)) }
     ensures named { IfOk result (λ how. IsNamed how name.now (F.history folder.old) (F.history folder.new)) }
@@ -121,7 +122,7 @@ pub fn keep<F: Folder>(
     ensures in_turn { (parts : Parts) → GoesInTurn parts (F.history folder.old) (F.history folder.new) }
     ensures stored { (parts : Parts) → name.now ≡ parts.name_of bytes.now → IfOk result (λ how. how ≡ Outcome.OnDisk → IsStored parts bytes.now (F.history folder.new)) }
     // Under the exclusive lock it is guarded.
-    ensures guarded { (parts : Parts) → name.now ≡ parts.name_of bytes.now → lock_of (F.history folder.old) ≡ Some Exclusive → IfOk result (λ how. how ≡ Outcome.OnDisk → stage_of parts (F.history folder.new) ≡ Guarded bytes.now) }
+    ensures guarded { (parts : Parts) → name.now ≡ parts.name_of bytes.now → IsExclusive (F.history folder.old) → IfOk result (λ how. how ≡ Outcome.OnDisk → IsGuarded parts bytes.now (F.history folder.new)) }
     // Any other answer has its cause: a sync that failed, no file, or other bytes; and so has an error: a call that failed.
     ensures cause { IfOk result (λ how. LookCause how name.now bytes.now (F.history folder.old) (F.history folder.new)) }
     ensures fails { OnErr result (HasCall Fails (F.history folder.old) (F.history folder.new)) }

@@ -1,10 +1,11 @@
 //! How a pack removes what it has joined.
-ghost use Rattle.std.specs.Prelude.{◌≡◌, ℕ, List, map, Some, None, OnOk, OnErr, IfOk};
+ghost use Rattle.std.specs.Prelude.{◌≡◌, ℕ, List, map, None, OnOk, OnErr, IfOk};
 ghost use Rattle.std.specs.String.{string_bytes};
-ghost use Rattle.folder_model.specs.Call.{Exclusive, lock_of};
+ghost use Rattle.folder_model.specs.Call.{lock_of};
 ghost use Rattle.folder_model.specs.Parts.{Parts};
-ghost use Rattle.folder_model.specs.Turn.{Guarded, IsStored, stage_of};
+ghost use Rattle.folder_model.specs.Turn.{IsStored, stage_of};
 ghost use Rattle.folder_protocol.specs.Goes.{GoesInTurn, AreJoined, AreRemoved};
+ghost use Rattle.folder_protocol.specs.Premises.{IsExclusive, IsGuarded, MayRemove};
 ghost use Rattle.folder_protocol.specs.Causes.{Fails, HasCall, LookCause};
 ghost use Rattle.folder_protocol.specs.Linking.{GoesPlainly, LinksNone};
 
@@ -24,7 +25,7 @@ pub fn remove_joined<F: Folder>(
     joined: &[String],
 ) -> io::Result<Outcome>
     // Each call is in turn.
-    ensures in_turn { (parts : Parts) → name.now ≡ parts.name_of bytes.now → AreJoined parts bytes.now (map string_bytes joined.now) (F.history folder.old) → GoesInTurn parts (F.history folder.old) (F.history folder.new) }
+    ensures in_turn { (parts : Parts) → MayRemove parts name.now bytes.now (map string_bytes joined.now) (F.history folder.old) → GoesInTurn parts (F.history folder.old) (F.history folder.new) }
     // Once the answer is that it is on the disk, each of them was removed.
     ensures gone { IfOk result (λ how. how ≡ Outcome.OnDisk → AreRemoved (map string_bytes joined.now) (F.history folder.old) (F.history folder.new)) }
     // Any other answer has its cause: a sync that failed, no file, or other bytes; and so has an error: a call that failed.
@@ -50,11 +51,11 @@ pub fn look_and_remove<F: Folder>(
     bytes: &[u8],
     joined: &[String],
 ) -> io::Result<Outcome>
-    ensures in_turn { (parts : Parts) → name.now ≡ parts.name_of bytes.now → lock_of (F.history folder.old) ≡ Some Exclusive → AreJoined parts bytes.now (map string_bytes joined.now) (F.history folder.old) → GoesInTurn parts (F.history folder.old) (F.history folder.new) }
+    ensures in_turn { (parts : Parts) → IsExclusive (F.history folder.old) → MayRemove parts name.now bytes.now (map string_bytes joined.now) (F.history folder.old) → GoesInTurn parts (F.history folder.old) (F.history folder.new) }
     ensures gone { IfOk result (λ how. how ≡ Outcome.OnDisk → AreRemoved (map string_bytes joined.now) (F.history folder.old) (F.history folder.new)) }
     ensures cause { IfOk result (λ how. LookCause how name.now bytes.now (F.history folder.old) (F.history folder.new)) }
     ensures fails { OnErr result (HasCall Fails (F.history folder.old) (F.history folder.new)) }
-    ensures guarded { (parts : Parts) → name.now ≡ parts.name_of bytes.now → lock_of (F.history folder.old) ≡ Some Exclusive → IfOk result (λ how. how ≡ Outcome.OnDisk → stage_of parts (F.history folder.new) ≡ Guarded bytes.now) }
+    ensures guarded { (parts : Parts) → name.now ≡ parts.name_of bytes.now → IsExclusive (F.history folder.old) → IfOk result (λ how. how ≡ Outcome.OnDisk → IsGuarded parts bytes.now (F.history folder.new)) }
     ensures plain { GoesPlainly (F.history folder.old) (F.history folder.new) }
 {
     match keep(alloc, folder, name, bytes)? {
@@ -69,7 +70,7 @@ pub fn look_and_remove<F: Folder>(
 
 /// Removes each of these names.
 fn remove_each<F: Folder>(folder: &mut F, joined: &[String]) -> io::Result<()>
-    ensures in_turn { (parts : Parts) (packed : List ℕ) → stage_of parts (F.history folder.old) ≡ Guarded packed → AreJoined parts packed (map string_bytes joined.now) (F.history folder.old) → GoesInTurn parts (F.history folder.old) (F.history folder.new) }
+    ensures in_turn { (parts : Parts) (packed : List ℕ) → IsGuarded parts packed (F.history folder.old) → AreJoined parts packed (map string_bytes joined.now) (F.history folder.old) → GoesInTurn parts (F.history folder.old) (F.history folder.new) }
     ensures gone { OnOk result (AreRemoved (map string_bytes joined.now) (F.history folder.old) (F.history folder.new)) }
     ensures fails { OnErr result (HasCall Fails (F.history folder.old) (F.history folder.new)) }
     ensures stays { (parts : Parts) → stage_of parts (F.history folder.new) ≡ stage_of parts (F.history folder.old) }

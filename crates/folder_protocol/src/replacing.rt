@@ -1,11 +1,12 @@
 //! How a part is put in the place of those that it was made of.
 ghost use Rattle.std.specs.Prelude.{◌≡◌, List, ℕ, ◌++◌, map, true, false, Some, None, OnErr, IfOk, IfSome};
 ghost use Rattle.std.specs.String.{string_bytes};
-ghost use Rattle.folder_model.specs.Call.{Call, Exclusive, lock_of};
+ghost use Rattle.folder_model.specs.Call.{Call, lock_of};
 ghost use Rattle.folder_model.specs.Disk.{Among};
-ghost use Rattle.folder_model.specs.Parts.{Parts, IsNoPart};
-ghost use Rattle.folder_model.specs.Turn.{Ready, IsStored, stage_of};
+ghost use Rattle.folder_model.specs.Parts.{Parts};
+ghost use Rattle.folder_model.specs.Turn.{IsStored, stage_of};
 ghost use Rattle.folder_protocol.specs.Goes.{GoesInTurn, AreJoined, AreRemoved};
+ghost use Rattle.folder_protocol.specs.Premises.{IsExclusive, MayPut, MayReplace};
 ghost use Rattle.folder_protocol.specs.Causes.{Fails, Lacks, HasCall, LookCause};
 ghost use Rattle.folder_protocol.specs.Linking.{LinksOnly, LinksNone, WasSo, Watches, HasEach, LacksOne};
 
@@ -30,7 +31,7 @@ pub fn replace<F: Folder>(
     joined: &[String],
 ) -> io::Result<Option<Outcome>>
     // Each call is in turn.
-    ensures in_turn { (parts : Parts) → name.now ≡ parts.name_of bytes.now → IsNoPart parts temporary.now → AreJoined parts bytes.now (map string_bytes joined.now) (F.history folder.old) → GoesInTurn parts (F.history folder.old) (F.history folder.new) }
+    ensures in_turn { (parts : Parts) → MayPut parts temporary.now name.now bytes.now → AreJoined parts bytes.now (map string_bytes joined.now) (F.history folder.old) → GoesInTurn parts (F.history folder.old) (F.history folder.new) }
     // Once the answer is that it is on the disk, each of them was removed.
     ensures gone { IfOk result (λ answer. answer ≡ Some Outcome.OnDisk → AreRemoved (map string_bytes joined.now) (F.history folder.old) (F.history folder.new)) }
     // Any other answer but None has its cause: a sync that failed, no file, or other bytes; and so has an error: a call that failed.
@@ -67,7 +68,7 @@ fn lock_and_replace<F: Folder>(
     bytes: &[u8],
     joined: &[String],
 ) -> io::Result<Option<Outcome>>
-    ensures in_turn { (parts : Parts) → name.now ≡ parts.name_of bytes.now → IsNoPart parts temporary.now → stage_of parts (F.history folder.old) ≡ Ready temporary.now bytes.now → AreJoined parts bytes.now (map string_bytes joined.now) (F.history folder.old) → GoesInTurn parts (F.history folder.old) (F.history folder.new) }
+    ensures in_turn { (parts : Parts) → MayReplace parts temporary.now name.now bytes.now (map string_bytes joined.now) (F.history folder.old) → GoesInTurn parts (F.history folder.old) (F.history folder.new) }
     ensures gone { IfOk result (λ answer. answer ≡ Some Outcome.OnDisk → AreRemoved (map string_bytes joined.now) (F.history folder.old) (F.history folder.new)) }
     ensures cause { IfOk result (λ answer. IfSome answer (λ how. LookCause how name.now bytes.now (F.history folder.old) (F.history folder.new))) }
     ensures overtaken { IfOk result (λ answer. answer ≡ None → HasCall (Lacks (map string_bytes joined.now)) (F.history folder.old) (F.history folder.new)) }
@@ -100,14 +101,14 @@ fn look_and_replace<F: Folder>(
     bytes: &[u8],
     joined: &[String],
 ) -> io::Result<Option<Outcome>>
-    ensures in_turn { (parts : Parts) → name.now ≡ parts.name_of bytes.now → IsNoPart parts temporary.now → stage_of parts (F.history folder.old) ≡ Ready temporary.now bytes.now → lock_of (F.history folder.old) ≡ Some Exclusive → AreJoined parts bytes.now (map string_bytes joined.now) (F.history folder.old) → GoesInTurn parts (F.history folder.old) (F.history folder.new) }
+    ensures in_turn { (parts : Parts) → IsExclusive (F.history folder.old) → MayReplace parts temporary.now name.now bytes.now (map string_bytes joined.now) (F.history folder.old) → GoesInTurn parts (F.history folder.old) (F.history folder.new) }
     ensures gone { IfOk result (λ answer. answer ≡ Some Outcome.OnDisk → AreRemoved (map string_bytes joined.now) (F.history folder.old) (F.history folder.new)) }
     ensures cause { IfOk result (λ answer. IfSome answer (λ how. LookCause how name.now bytes.now (F.history folder.old) (F.history folder.new))) }
     ensures overtaken { IfOk result (λ answer. answer ≡ None → HasCall (Lacks (map string_bytes joined.now)) (F.history folder.old) (F.history folder.new)) }
     ensures fails { OnErr result (HasCall Fails (F.history folder.old) (F.history folder.new)) }
-    ensures stored { (parts : Parts) → name.now ≡ parts.name_of bytes.now → lock_of (F.history folder.old) ≡ Some Exclusive → IfOk result (λ answer. answer ≡ Some Outcome.OnDisk → IsStored parts bytes.now (F.history folder.new)) }
-    ensures links { lock_of (F.history folder.old) ≡ Some Exclusive → LinksOnly (Watches (HasEach (map string_bytes joined.now))) (F.history folder.old) (F.history folder.new) }
-    ensures lacked { lock_of (F.history folder.old) ≡ Some Exclusive → IfOk result (λ answer. answer ≡ None → WasSo (Watches (LacksOne (map string_bytes joined.now))) (F.history folder.old) (F.history folder.new)) }
+    ensures stored { (parts : Parts) → name.now ≡ parts.name_of bytes.now → IsExclusive (F.history folder.old) → IfOk result (λ answer. answer ≡ Some Outcome.OnDisk → IsStored parts bytes.now (F.history folder.new)) }
+    ensures links { IsExclusive (F.history folder.old) → LinksOnly (Watches (HasEach (map string_bytes joined.now))) (F.history folder.old) (F.history folder.new) }
+    ensures lacked { IsExclusive (F.history folder.old) → IfOk result (λ answer. answer ≡ None → WasSo (Watches (LacksOne (map string_bytes joined.now))) (F.history folder.old) (F.history folder.new)) }
     ensures unlinked { IfOk result (λ answer. answer ≡ None → LinksNone (F.history folder.old) (F.history folder.new)) }
 {
     match are_there(alloc, folder, joined) {
@@ -125,15 +126,15 @@ fn look_and_replace<F: Folder>(
 
 /// Whether a folder of which the exclusive lock is held has all of these names.
 fn are_there<F: Folder>(alloc: Global, folder: &mut F, names: &[String]) -> io::Result<bool>
-    ensures in_turn { (parts : Parts) → lock_of (F.history folder.old) ≡ Some Exclusive → GoesInTurn parts (F.history folder.old) (F.history folder.new) }
+    ensures in_turn { (parts : Parts) → IsExclusive (F.history folder.old) → GoesInTurn parts (F.history folder.old) (F.history folder.new) }
     ensures follows { (calls : List Call) × (F.history folder.new ≡ calls ++ F.history folder.old) }
     ensures stays { (parts : Parts) → stage_of parts (F.history folder.new) ≡ stage_of parts (F.history folder.old) }
     ensures locked { lock_of (F.history folder.new) ≡ lock_of (F.history folder.old) }
     ensures lacking { IfOk result (λ there. there ≡ false → HasCall (Lacks (map string_bytes names.now)) (F.history folder.old) (F.history folder.new)) }
     ensures fails { OnErr result (HasCall Fails (F.history folder.old) (F.history folder.new)) }
     ensures links { LinksNone (F.history folder.old) (F.history folder.new) }
-    ensures watched { lock_of (F.history folder.old) ≡ Some Exclusive → IfOk result (λ there. there ≡ true → Watches (HasEach (map string_bytes names.now)) (F.history folder.new)) }
-    ensures lacked { lock_of (F.history folder.old) ≡ Some Exclusive → IfOk result (λ there. there ≡ false → Watches (LacksOne (map string_bytes names.now)) (F.history folder.new)) }
+    ensures watched { IsExclusive (F.history folder.old) → IfOk result (λ there. there ≡ true → Watches (HasEach (map string_bytes names.now)) (F.history folder.new)) }
+    ensures lacked { IsExclusive (F.history folder.old) → IfOk result (λ there. there ≡ false → Watches (LacksOne (map string_bytes names.now)) (F.history folder.new)) }
 {
     let listed = folder.list(alloc)?;
     Ok(has_each(listed.as_slice(), names))
@@ -163,12 +164,12 @@ fn place_and_remove<F: Folder>(
     bytes: &[u8],
     joined: &[String],
 ) -> io::Result<Option<Outcome>>
-    ensures in_turn { (parts : Parts) → name.now ≡ parts.name_of bytes.now → IsNoPart parts temporary.now → stage_of parts (F.history folder.old) ≡ Ready temporary.now bytes.now → lock_of (F.history folder.old) ≡ Some Exclusive → AreJoined parts bytes.now (map string_bytes joined.now) (F.history folder.old) → GoesInTurn parts (F.history folder.old) (F.history folder.new) }
+    ensures in_turn { (parts : Parts) → IsExclusive (F.history folder.old) → MayReplace parts temporary.now name.now bytes.now (map string_bytes joined.now) (F.history folder.old) → GoesInTurn parts (F.history folder.old) (F.history folder.new) }
     ensures gone { IfOk result (λ answer. answer ≡ Some Outcome.OnDisk → AreRemoved (map string_bytes joined.now) (F.history folder.old) (F.history folder.new)) }
     ensures cause { IfOk result (λ answer. IfSome answer (λ how. LookCause how name.now bytes.now (F.history folder.old) (F.history folder.new))) }
     ensures some { IfOk result (λ answer. answer ≡ None → ⊥) }
     ensures fails { OnErr result (HasCall Fails (F.history folder.old) (F.history folder.new)) }
-    ensures stored { (parts : Parts) → name.now ≡ parts.name_of bytes.now → lock_of (F.history folder.old) ≡ Some Exclusive → IfOk result (λ answer. answer ≡ Some Outcome.OnDisk → IsStored parts bytes.now (F.history folder.new)) }
+    ensures stored { (parts : Parts) → name.now ≡ parts.name_of bytes.now → IsExclusive (F.history folder.old) → IfOk result (λ answer. answer ≡ Some Outcome.OnDisk → IsStored parts bytes.now (F.history folder.new)) }
     ensures links { LinksOnly (λ calls. calls ≡ F.history folder.old) (F.history folder.old) (F.history folder.new) }
 {
     let linked = folder.link(temporary, name);

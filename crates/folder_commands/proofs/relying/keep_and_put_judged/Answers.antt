@@ -12,16 +12,16 @@ use Rattle.folder_commands.proofs.Relied.{all_left, kept_later, on_ok}
 use Rattle.folder_commands.proofs.relying.keep_and_put_judged.Goals as goal
 
 pub returns-clause-in_turn : goal.returns-clause-in_turn
-returns-clause-in_turn g c = λ parts named temp. joins parts _ _ _ (c.keep_relied.ensures.in_turn parts) (c.put_judged.ensures.in_turn parts named temp)
+returns-clause-in_turn g c = λ parts may. joins parts _ _ _ (c.keep_relied.ensures.in_turn parts) (c.put_judged.ensures.in_turn parts may)
 
 pub returns-clause-kept : goal.returns-clause-kept
-returns-clause-kept g c = λ parts named temp.
-    let puts = c.put_judged.ensures.in_turn parts named temp in
+returns-clause-kept g c = λ parts may.
+    let puts = c.put_judged.ensures.in_turn parts may in
     on_ok c.put_judged.result (kept_later parts (map string_bytes c.args.relied.now) _ _ _ (puts.0, puts.1) (c.in_ok-keep_relied.ensures.kept parts))
 
 pub returns-clause-left : goal.returns-clause-left
-returns-clause-left g c = λ named temp.
-    all_left c.put_judged.result (Some OnDisk) c.args.bytes.now (map string_bytes c.args.relied.now) _ _ (returns-clause-kept g c folder_parts named temp) (c.put_judged.ensures.stored folder_parts named temp)
+returns-clause-left g c = λ may.
+    all_left c.put_judged.result (Some OnDisk) c.args.bytes.now (map string_bytes c.args.relied.now) _ _ (returns-clause-kept g c folder_parts may) (c.put_judged.ensures.stored folder_parts may)
 
 pub returns-clause-cause : goal.returns-clause-cause
 returns-clause-cause g c =

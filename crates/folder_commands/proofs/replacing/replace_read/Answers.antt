@@ -14,7 +14,7 @@ returns-in-Ok-replace-clause-in_turn g c = λ temp covered.
     let names = map string_bytes c.args.names.now in
     let named = c.as_str.ensures.value ∙ c.in-Ok.ensures.name in
     let gone = ap (λ l. map string_bytes l) c.as_slice.ensures.value ∙ c.in-Ok.ensures.gone ∙ ap (λ (n : List ℕ). filter (goes passed n) names) (sym c.as_str.ensures.value) in
-    c.replace.ensures.in_turn folder_parts named temp
+    c.replace.ensures.in_turn folder_parts (named, temp)
     (are_joined passed names c.args.bytes.now c.as_str.result.now (map string_bytes c.as_slice.result.now) (g.F.Folder.history c.args.folder.now) named gone covered)
 
 pub returns-in-Ok-replace-clause-replaces : goal.returns-in-Ok-replace-clause-replaces
@@ -36,5 +36,5 @@ returns-in-Err-replace-clause-in_turn g c = λ temp covered.
     let names = map string_bytes c.args.names.now in
     let named = c.as_str.ensures.value ∙ c.in-Ok.ensures.name in
     let gone = ap (λ l. map string_bytes l) c.as_slice.ensures.value ∙ c.in-Ok.ensures.gone ∙ ap (λ (n : List ℕ). filter (goes passed n) names) (sym c.as_str.ensures.value) in
-    c.replace.ensures.in_turn folder_parts named temp
+    c.replace.ensures.in_turn folder_parts (named, temp)
     (are_joined passed names c.args.bytes.now c.as_str.result.now (map string_bytes c.as_slice.result.now) (g.F.Folder.history c.args.folder.now) named gone covered)

@@ -9,9 +9,9 @@ use Rattle.folder_protocol.proofs.Linking.{links_none, links_on, links_more, all
 use Rattle.folder_protocol.proofs.judging.lock_and_put.Goals as goal
 
 pub returns-in-Ok-clause-in_turn : goal.returns-in-Ok-clause-in_turn
-returns-in-Ok-clause-in_turn g c = λ parts named temp ready.
+returns-in-Ok-clause-in_turn g c = λ parts may.
     let locked = goes_on parts _ _ _ _ (starts parts _) c.in-Ok.ensures tt in
-    let put = joins parts _ _ _ locked (c.look_and_put-outcome.ensures.in_turn parts named temp (ready_locked parts _ _ _ _ _ ready c.in-Ok.ensures) (ap lock_of c.in-Ok.ensures)) in
+    let put = joins parts _ _ _ locked (c.look_and_put-outcome.ensures.in_turn parts (may.0, ready_locked parts _ _ _ _ _ may.1 c.in-Ok.ensures) (ap lock_of c.in-Ok.ensures)) in
     goes_on parts _ _ _ _ put c.unlock.ensures tt
 
 pub returns-in-Ok-clause-stored : goal.returns-in-Ok-clause-stored
@@ -34,8 +34,8 @@ returns-in-Ok-clause-fails g c =
     (fails_later c.look_and_put-outcome.result _ _ _ (follows_on _ _ _ _ (follows_none _) c.in-Ok.ensures) c.look_and_put-outcome.ensures.fails)
 
 pub returns-in-Err-clause-in_turn : goal.returns-in-Err-clause-in_turn
-returns-in-Err-clause-in_turn g c = λ parts named temp ready.
-    goes_on parts _ _ _ _ (goes_on parts _ _ _ _ (starts parts _) c.in-Err.ensures tt) c.remove.ensures (inl temp)
+returns-in-Err-clause-in_turn g c = λ parts may.
+    goes_on parts _ _ _ _ (goes_on parts _ _ _ _ (starts parts _) c.in-Err.ensures tt) c.remove.ensures (inl may.0.1)
 
 pub returns-in-Err-clause-fails : goal.returns-in-Err-clause-fails
 returns-in-Err-clause-fails g c = has_before Fails _ _ _ (follows_on _ _ _ _ (follows_none _) c.remove.ensures) (has_now Fails _ _ _ c.in-Err.ensures refl)

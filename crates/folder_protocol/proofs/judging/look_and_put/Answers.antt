@@ -8,12 +8,12 @@ use Rattle.folder_protocol.proofs.Linking.{links_on, links_never, links_at, was_
 use Rattle.folder_protocol.proofs.judging.look_and_put.Goals as goal
 
 pub returns-in-Ok-clause-in_turn : goal.returns-in-Ok-clause-in_turn
-returns-in-Ok-clause-in_turn g c = λ parts named temp ready lock.
-    joins parts _ _ _ (c.in-Ok-true.ensures.in_turn parts lock) (c.place.ensures.in_turn parts named temp (c.in-Ok-true.ensures.stays parts ∙ ready))
+returns-in-Ok-clause-in_turn g c = λ parts may lock.
+    joins parts _ _ _ (c.in-Ok-true.ensures.in_turn parts lock) (c.place.ensures.in_turn parts (may.0, c.in-Ok-true.ensures.stays parts ∙ may.1))
 
 pub returns-in-Err-place-clause-in_turn : goal.returns-in-Err-place-clause-in_turn
-returns-in-Err-place-clause-in_turn g c = λ parts named temp ready lock.
-    joins parts _ _ _ (c.in-Ok-true.ensures.in_turn parts lock) (c.place.ensures.in_turn parts named temp (c.in-Ok-true.ensures.stays parts ∙ ready))
+returns-in-Err-place-clause-in_turn g c = λ parts may lock.
+    joins parts _ _ _ (c.in-Ok-true.ensures.in_turn parts lock) (c.place.ensures.in_turn parts (may.0, c.in-Ok-true.ensures.stays parts ∙ may.1))
 
 pub returns-in-Ok-clause-cause : goal.returns-in-Ok-clause-cause
 returns-in-Ok-clause-cause g c = look_later _ c.args.name.now c.args.bytes.now _ _ _ c.in-Ok-true.ensures.follows c.in-Ok.ensures.cause
@@ -25,12 +25,12 @@ pub returns-in-Err-place-clause-fails : goal.returns-in-Err-place-clause-fails
 returns-in-Err-place-clause-fails g c = has_later Fails _ _ _ c.in-Ok-true.ensures.follows c.in-Err-place.ensures.fails
 
 pub returns-in-Ok-false-clause-in_turn : goal.returns-in-Ok-false-clause-in_turn
-returns-in-Ok-false-clause-in_turn g c = λ parts named temp ready lock.
-    goes_on parts _ _ _ _ (c.in-Ok-false.ensures.in_turn parts lock) c.remove.ensures (inl temp)
+returns-in-Ok-false-clause-in_turn g c = λ parts may lock.
+    goes_on parts _ _ _ _ (c.in-Ok-false.ensures.in_turn parts lock) c.remove.ensures (inl may.0.1)
 
 pub returns-in-Err-clause-in_turn : goal.returns-in-Err-clause-in_turn
-returns-in-Err-clause-in_turn g c = λ parts named temp ready lock.
-    goes_on parts _ _ _ _ (c.in-Err.ensures.in_turn parts lock) c.remove-in-Err.ensures (inl temp)
+returns-in-Err-clause-in_turn g c = λ parts may lock.
+    goes_on parts _ _ _ _ (c.in-Err.ensures.in_turn parts lock) c.remove-in-Err.ensures (inl may.0.1)
 
 pub returns-in-Err-clause-fails : goal.returns-in-Err-clause-fails
 returns-in-Err-clause-fails g c = has_before Fails _ _ _ (follows_on _ _ _ _ (follows_none _) c.remove-in-Err.ensures) c.in-Err.ensures.fails

@@ -8,8 +8,8 @@ use Rattle.folder_protocol.proofs.Linking.{plain_follows, plain_lock, plain_link
 use Rattle.folder_protocol.proofs.judging.put_judged.Goals as goal
 
 pub returns-in-Ok-clause-in_turn : goal.returns-in-Ok-clause-in_turn
-returns-in-Ok-clause-in_turn g c = λ parts named temp.
-    joins parts _ _ _ (c.in-Ok.ensures.in_turn parts temp) (c.lock_and_put.ensures.in_turn parts named temp (c.in-Ok.ensures.ready parts))
+returns-in-Ok-clause-in_turn g c = λ parts may.
+    joins parts _ _ _ (c.in-Ok.ensures.in_turn parts may.1) (c.lock_and_put.ensures.in_turn parts (may, c.in-Ok.ensures.ready parts))
 
 pub returns-in-Ok-clause-cause : goal.returns-in-Ok-clause-cause
 returns-in-Ok-clause-cause g c =
@@ -26,7 +26,7 @@ returns-in-Ok-clause-fails g c =
     fails_later c.lock_and_put.result _ _ _ (wrote.0, wrote.1) c.lock_and_put.ensures.fails
 
 pub returns-in-Err-clause-in_turn : goal.returns-in-Err-clause-in_turn
-returns-in-Err-clause-in_turn g c = λ parts named temp. goes_on parts _ _ _ _ (c.in-Err.ensures.in_turn parts temp) c.remove.ensures (inl temp)
+returns-in-Err-clause-in_turn g c = λ parts may. goes_on parts _ _ _ _ (c.in-Err.ensures.in_turn parts may.1) c.remove.ensures (inl may.1)
 
 pub returns-in-Err-clause-fails : goal.returns-in-Err-clause-fails
 returns-in-Err-clause-fails g c = has_before Fails _ _ _ (follows_on _ _ _ _ (follows_none _) c.remove.ensures) c.in-Err.ensures.fails

@@ -7,27 +7,27 @@ use Rattle.folder_protocol.proofs.Linking.{plain_lock, plain_links, links_none, 
 use Rattle.folder_protocol.proofs.putting.place.Goals as goal
 
 pub returns-in-Ok-clause-in_turn : goal.returns-in-Ok-clause-in_turn
-returns-in-Ok-clause-in_turn g c = λ parts named temp ready.
-    let linked = goes_on parts _ _ _ _ (starts parts _) c.in-Ok-true.ensures (c.args.bytes.now, ready, named) in
-    let removed = goes_on parts _ _ _ _ linked c.remove.ensures (inl temp) in
+returns-in-Ok-clause-in_turn g c = λ parts may.
+    let linked = goes_on parts _ _ _ _ (starts parts _) c.in-Ok-true.ensures (c.args.bytes.now, may.1, may.0.0) in
+    let removed = goes_on parts _ _ _ _ linked c.remove.ensures (inl may.0.1) in
     settles_on parts c.settle.result _ _ _ removed c.settle.ensures.noted c.settle.ensures.clean
 
 pub returns-in-Err-settle-clause-in_turn : goal.returns-in-Err-settle-clause-in_turn
-returns-in-Err-settle-clause-in_turn g c = λ parts named temp ready.
-    let linked = goes_on parts _ _ _ _ (starts parts _) c.in-Ok-true.ensures (c.args.bytes.now, ready, named) in
-    let removed = goes_on parts _ _ _ _ linked c.remove.ensures (inl temp) in
+returns-in-Err-settle-clause-in_turn g c = λ parts may.
+    let linked = goes_on parts _ _ _ _ (starts parts _) c.in-Ok-true.ensures (c.args.bytes.now, may.1, may.0.0) in
+    let removed = goes_on parts _ _ _ _ linked c.remove.ensures (inl may.0.1) in
     settles_on parts c.settle.result _ _ _ removed c.settle.ensures.noted c.settle.ensures.clean
 
 pub returns-in-Ok-false-clause-in_turn : goal.returns-in-Ok-false-clause-in_turn
-returns-in-Ok-false-clause-in_turn g c = λ parts named temp ready.
-    let linked = goes_on parts _ _ _ _ (starts parts _) c.in-Ok-false.ensures (c.args.bytes.now, ready, named) in
-    let removed = goes_on parts _ _ _ _ linked c.remove.ensures (inl temp) in
+returns-in-Ok-false-clause-in_turn g c = λ parts may.
+    let linked = goes_on parts _ _ _ _ (starts parts _) c.in-Ok-false.ensures (c.args.bytes.now, may.1, may.0.0) in
+    let removed = goes_on parts _ _ _ _ linked c.remove.ensures (inl may.0.1) in
     joins parts _ _ _ removed (c.keep.ensures.in_turn parts)
 
 pub returns-in-Err-clause-in_turn : goal.returns-in-Err-clause-in_turn
-returns-in-Err-clause-in_turn g c = λ parts named temp ready.
-    let linked = goes_on parts _ _ _ _ (starts parts _) c.in-Err.ensures (c.args.bytes.now, ready, named) in
-    goes_on parts _ _ _ _ linked c.remove.ensures (inl temp)
+returns-in-Err-clause-in_turn g c = λ parts may.
+    let linked = goes_on parts _ _ _ _ (starts parts _) c.in-Err.ensures (c.args.bytes.now, may.1, may.0.0) in
+    goes_on parts _ _ _ _ linked c.remove.ensures (inl may.0.1)
 
 pub returns-in-Err-settle-clause-cause : goal.returns-in-Err-settle-clause-cause
 returns-in-Err-settle-clause-cause g c =

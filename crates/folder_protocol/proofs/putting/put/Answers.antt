@@ -7,11 +7,11 @@ use Rattle.folder_protocol.proofs.Linking.{plain_lock}
 use Rattle.folder_protocol.proofs.putting.put.Goals as goal
 
 pub returns-in-Ok-clause-in_turn : goal.returns-in-Ok-clause-in_turn
-returns-in-Ok-clause-in_turn g c = λ parts named temp.
-    joins parts _ _ _ (c.in-Ok.ensures.in_turn parts temp) (c.place.ensures.in_turn parts named temp (c.in-Ok.ensures.ready parts))
+returns-in-Ok-clause-in_turn g c = λ parts may.
+    joins parts _ _ _ (c.in-Ok.ensures.in_turn parts may.1) (c.place.ensures.in_turn parts (may, c.in-Ok.ensures.ready parts))
 
 pub returns-in-Err-clause-in_turn : goal.returns-in-Err-clause-in_turn
-returns-in-Err-clause-in_turn g c = λ parts named temp. goes_on parts _ _ _ _ (c.in-Err.ensures.in_turn parts temp) c.remove.ensures (inl temp)
+returns-in-Err-clause-in_turn g c = λ parts may. goes_on parts _ _ _ _ (c.in-Err.ensures.in_turn parts may.1) c.remove.ensures (inl may.1)
 
 pub returns-in-Ok-clause-cause : goal.returns-in-Ok-clause-cause
 returns-in-Ok-clause-cause g c =

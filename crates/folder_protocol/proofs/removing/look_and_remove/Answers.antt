@@ -10,20 +10,20 @@ use Rattle.folder_protocol.proofs.Linking.{plain_on, plain_more, settled_guarded
 use Rattle.folder_protocol.proofs.removing.look_and_remove.Goals as goal
 
 pub returns-in_err-remove_each-in-OnDisk-clause-in_turn : goal.returns-in_err-remove_each-in-OnDisk-clause-in_turn
-returns-in_err-remove_each-in-OnDisk-clause-in_turn g c = λ parts named lock joined.
+returns-in_err-remove_each-in-OnDisk-clause-in_turn g c = λ parts lock may.
     let kept = c.keep.ensures.in_turn parts in
-    joins parts _ _ _ kept (c.remove_each.ensures.in_turn parts c.args.bytes.now (c.in_ok-other.ensures.guarded parts named lock c.in-OnDisk.is) (all_joined_later parts _ _ _ _ kept joined))
+    joins parts _ _ _ kept (c.remove_each.ensures.in_turn parts c.args.bytes.now (c.in_ok-other.ensures.guarded parts may.0 lock c.in-OnDisk.is) (all_joined_later parts _ _ _ _ kept may.1))
 
 pub returns-in_err-settle-in-OnDisk-clause-in_turn : goal.returns-in_err-settle-in-OnDisk-clause-in_turn
-returns-in_err-settle-in-OnDisk-clause-in_turn g c = λ parts named lock joined.
+returns-in_err-settle-in-OnDisk-clause-in_turn g c = λ parts lock may.
     let kept = c.keep.ensures.in_turn parts in
-    let removed = joins parts _ _ _ kept (c.remove_each.ensures.in_turn parts c.args.bytes.now (c.in_ok-other.ensures.guarded parts named lock c.in-OnDisk.is) (all_joined_later parts _ _ _ _ kept joined)) in
+    let removed = joins parts _ _ _ kept (c.remove_each.ensures.in_turn parts c.args.bytes.now (c.in_ok-other.ensures.guarded parts may.0 lock c.in-OnDisk.is) (all_joined_later parts _ _ _ _ kept may.1)) in
     settles_on parts c.settle.result _ _ _ removed c.settle.ensures.noted c.settle.ensures.clean
 
 pub returns-in_ok-settle-in-OnDisk-clause-in_turn : goal.returns-in_ok-settle-in-OnDisk-clause-in_turn
-returns-in_ok-settle-in-OnDisk-clause-in_turn g c = λ parts named lock joined.
+returns-in_ok-settle-in-OnDisk-clause-in_turn g c = λ parts lock may.
     let kept = c.keep.ensures.in_turn parts in
-    let removed = joins parts _ _ _ kept (c.remove_each.ensures.in_turn parts c.args.bytes.now (c.in_ok-other.ensures.guarded parts named lock c.in-OnDisk.is) (all_joined_later parts _ _ _ _ kept joined)) in
+    let removed = joins parts _ _ _ kept (c.remove_each.ensures.in_turn parts c.args.bytes.now (c.in_ok-other.ensures.guarded parts may.0 lock c.in-OnDisk.is) (all_joined_later parts _ _ _ _ kept may.1)) in
     settles_on parts c.settle.result _ _ _ removed c.settle.ensures.noted c.settle.ensures.clean
 
 -- any: which calls were made is the same for all

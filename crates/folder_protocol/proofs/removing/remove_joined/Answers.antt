@@ -8,12 +8,12 @@ use Rattle.folder_protocol.proofs.Linking.{plain_links, links_none, links_on, li
 use Rattle.folder_protocol.proofs.removing.remove_joined.Goals as goal
 
 pub returns-in_err-lock-clause-in_turn : goal.returns-in_err-lock-clause-in_turn
-returns-in_err-lock-clause-in_turn g c = λ parts named joined. goes_on parts _ _ _ _ (starts parts _) c.lock.ensures tt
+returns-in_err-lock-clause-in_turn g c = λ parts may. goes_on parts _ _ _ _ (starts parts _) c.lock.ensures tt
 
 pub returns-clause-in_turn : goal.returns-clause-in_turn
-returns-clause-in_turn g c = λ parts named joined.
+returns-clause-in_turn g c = λ parts may.
     let locked = goes_on parts _ _ _ _ (starts parts _) c.in_ok-lock.ensures tt in
-    let removed = joins parts _ _ _ locked (c.look_and_remove-outcome.ensures.in_turn parts named (ap lock_of c.in_ok-lock.ensures) (all_joined_later parts _ _ _ _ locked joined)) in
+    let removed = joins parts _ _ _ locked (c.look_and_remove-outcome.ensures.in_turn parts (ap lock_of c.in_ok-lock.ensures) (may.0, all_joined_later parts _ _ _ _ locked may.1)) in
     goes_on parts _ _ _ _ removed c.unlock.ensures tt
 
 pub returns-clause-gone : goal.returns-clause-gone

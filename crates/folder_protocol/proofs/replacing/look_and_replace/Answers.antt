@@ -10,9 +10,9 @@ use Rattle.folder_protocol.proofs.Linking.{links_on, links_never, links_at, was_
 use Rattle.folder_protocol.proofs.replacing.look_and_replace.Goals as goal
 
 pub returns-in-Ok-true-clause-in_turn : goal.returns-in-Ok-true-clause-in_turn
-returns-in-Ok-true-clause-in_turn g c = λ parts named temp ready lock joined.
+returns-in-Ok-true-clause-in_turn g c = λ parts lock may.
     let looked = c.in-Ok-true.ensures.in_turn parts lock in
-    joins parts _ _ _ looked (c.place_and_remove.ensures.in_turn parts named temp (c.in-Ok-true.ensures.stays parts ∙ ready) (c.in-Ok-true.ensures.locked ∙ lock) (all_joined_later parts _ _ _ _ looked joined))
+    joins parts _ _ _ looked (c.place_and_remove.ensures.in_turn parts (c.in-Ok-true.ensures.locked ∙ lock) ((may.0.0, c.in-Ok-true.ensures.stays parts ∙ may.0.1), all_joined_later parts _ _ _ _ looked may.1))
 
 pub returns-in-Ok-true-clause-gone : goal.returns-in-Ok-true-clause-gone
 returns-in-Ok-true-clause-gone g c =
@@ -27,12 +27,12 @@ pub returns-in-Ok-true-clause-fails : goal.returns-in-Ok-true-clause-fails
 returns-in-Ok-true-clause-fails g c = fails_later c.place_and_remove.result _ _ _ c.in-Ok-true.ensures.follows c.place_and_remove.ensures.fails
 
 pub returns-in-Ok-false-clause-in_turn : goal.returns-in-Ok-false-clause-in_turn
-returns-in-Ok-false-clause-in_turn g c = λ parts named temp ready lock joined.
-    goes_on parts _ _ _ _ (c.in-Ok-false.ensures.in_turn parts lock) c.remove.ensures (inl temp)
+returns-in-Ok-false-clause-in_turn g c = λ parts lock may.
+    goes_on parts _ _ _ _ (c.in-Ok-false.ensures.in_turn parts lock) c.remove.ensures (inl may.0.0.1)
 
 pub returns-in-Err-clause-in_turn : goal.returns-in-Err-clause-in_turn
-returns-in-Err-clause-in_turn g c = λ parts named temp ready lock joined.
-    goes_on parts _ _ _ _ (c.in-Err.ensures.in_turn parts lock) c.remove-in-Err.ensures (inl temp)
+returns-in-Err-clause-in_turn g c = λ parts lock may.
+    goes_on parts _ _ _ _ (c.in-Err.ensures.in_turn parts lock) c.remove-in-Err.ensures (inl may.0.0.1)
 
 pub returns-in-Err-clause-fails : goal.returns-in-Err-clause-fails
 returns-in-Err-clause-fails g c = has_before Fails _ _ _ (follows_on _ _ _ _ (follows_none _) c.remove-in-Err.ensures) c.in-Err.ensures.fails

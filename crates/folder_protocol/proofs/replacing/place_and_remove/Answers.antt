@@ -8,10 +8,10 @@ use Rattle.folder_protocol.proofs.Linking.{plain_links, links_none, links_on, li
 use Rattle.folder_protocol.proofs.replacing.place_and_remove.Goals as goal
 
 pub returns-in-Ok-look_and_remove-clause-in_turn : goal.returns-in-Ok-look_and_remove-clause-in_turn
-returns-in-Ok-look_and_remove-clause-in_turn g c = λ parts named temp ready lock joined.
-    let linked = goes_on parts _ _ _ _ (starts parts _) c.in-Ok.ensures (c.args.bytes.now, ready, named) in
-    let removed = goes_on parts _ _ _ _ linked c.remove.ensures (inl temp) in
-    joins parts _ _ _ removed (c.in-Ok-look_and_remove.ensures.in_turn parts named (ap lock_of c.remove.ensures ∙ ap lock_of c.in-Ok.ensures ∙ lock) (all_joined_later parts _ _ _ _ removed joined))
+returns-in-Ok-look_and_remove-clause-in_turn g c = λ parts lock may.
+    let linked = goes_on parts _ _ _ _ (starts parts _) c.in-Ok.ensures (c.args.bytes.now, may.0.1, may.0.0.0) in
+    let removed = goes_on parts _ _ _ _ linked c.remove.ensures (inl may.0.0.1) in
+    joins parts _ _ _ removed (c.in-Ok-look_and_remove.ensures.in_turn parts (ap lock_of c.remove.ensures ∙ ap lock_of c.in-Ok.ensures ∙ lock) (may.0.0.0, all_joined_later parts _ _ _ _ removed may.1))
 
 pub returns-in-Ok-look_and_remove-clause-gone : goal.returns-in-Ok-look_and_remove-clause-gone
 returns-in-Ok-look_and_remove-clause-gone g c = λ is.
@@ -23,19 +23,19 @@ returns-in-Ok-look_and_remove-clause-cause g c =
     look_later _ c.args.name.now c.args.bytes.now _ _ _ (follows_on _ _ _ _ (follows_on _ _ _ _ (follows_none _) c.in-Ok.ensures) c.remove.ensures) c.in-Ok-look_and_remove.ensures.cause
 
 pub returns-in-Err-look_and_remove-clause-in_turn : goal.returns-in-Err-look_and_remove-clause-in_turn
-returns-in-Err-look_and_remove-clause-in_turn g c = λ parts named temp ready lock joined.
-    let linked = goes_on parts _ _ _ _ (starts parts _) c.in-Ok.ensures (c.args.bytes.now, ready, named) in
-    let removed = goes_on parts _ _ _ _ linked c.remove.ensures (inl temp) in
-    joins parts _ _ _ removed (c.in-Err-look_and_remove.ensures.in_turn parts named (ap lock_of c.remove.ensures ∙ ap lock_of c.in-Ok.ensures ∙ lock) (all_joined_later parts _ _ _ _ removed joined))
+returns-in-Err-look_and_remove-clause-in_turn g c = λ parts lock may.
+    let linked = goes_on parts _ _ _ _ (starts parts _) c.in-Ok.ensures (c.args.bytes.now, may.0.1, may.0.0.0) in
+    let removed = goes_on parts _ _ _ _ linked c.remove.ensures (inl may.0.0.1) in
+    joins parts _ _ _ removed (c.in-Err-look_and_remove.ensures.in_turn parts (ap lock_of c.remove.ensures ∙ ap lock_of c.in-Ok.ensures ∙ lock) (may.0.0.0, all_joined_later parts _ _ _ _ removed may.1))
 
 pub returns-in-Err-look_and_remove-clause-fails : goal.returns-in-Err-look_and_remove-clause-fails
 returns-in-Err-look_and_remove-clause-fails g c =
     has_later Fails _ _ _ (follows_on _ _ _ _ (follows_on _ _ _ _ (follows_none _) c.in-Ok.ensures) c.remove.ensures) c.in-Err-look_and_remove.ensures.fails
 
 pub returns-in-Err-clause-in_turn : goal.returns-in-Err-clause-in_turn
-returns-in-Err-clause-in_turn g c = λ parts named temp ready lock joined.
-    let linked = goes_on parts _ _ _ _ (starts parts _) c.in-Err.ensures (c.args.bytes.now, ready, named) in
-    goes_on parts _ _ _ _ linked c.remove.ensures (inl temp)
+returns-in-Err-clause-in_turn g c = λ parts lock may.
+    let linked = goes_on parts _ _ _ _ (starts parts _) c.in-Err.ensures (c.args.bytes.now, may.0.1, may.0.0.0) in
+    goes_on parts _ _ _ _ linked c.remove.ensures (inl may.0.0.1)
 
 pub returns-in-Err-clause-fails : goal.returns-in-Err-clause-fails
 returns-in-Err-clause-fails g c = has_before Fails _ _ _ (follows_on _ _ _ _ (follows_none _) c.remove.ensures) (has_now Fails _ _ _ c.in-Err.ensures refl)

@@ -10,9 +10,9 @@ use Rattle.folder_protocol.proofs.Linking.{plain_follows, plain_lock, plain_link
 use Rattle.folder_protocol.proofs.replacing.replace.Goals as goal
 
 pub returns-in-Ok-clause-in_turn : goal.returns-in-Ok-clause-in_turn
-returns-in-Ok-clause-in_turn g c = λ parts named temp joined.
-    let wrote = c.in-Ok.ensures.in_turn parts temp in
-    joins parts _ _ _ wrote (c.lock_and_replace.ensures.in_turn parts named temp (c.in-Ok.ensures.ready parts) (all_joined_later parts _ _ _ _ wrote joined))
+returns-in-Ok-clause-in_turn g c = λ parts may joined.
+    let wrote = c.in-Ok.ensures.in_turn parts may.1 in
+    joins parts _ _ _ wrote (c.lock_and_replace.ensures.in_turn parts ((may, c.in-Ok.ensures.ready parts), all_joined_later parts _ _ _ _ wrote joined))
 
 pub returns-in-Ok-clause-gone : goal.returns-in-Ok-clause-gone
 returns-in-Ok-clause-gone g c =
@@ -30,7 +30,7 @@ returns-in-Ok-clause-fails g c =
     fails_later c.lock_and_replace.result _ _ _ (wrote.0, wrote.1) c.lock_and_replace.ensures.fails
 
 pub returns-in-Err-clause-in_turn : goal.returns-in-Err-clause-in_turn
-returns-in-Err-clause-in_turn g c = λ parts named temp joined. goes_on parts _ _ _ _ (c.in-Err.ensures.in_turn parts temp) c.remove.ensures (inl temp)
+returns-in-Err-clause-in_turn g c = λ parts may joined. goes_on parts _ _ _ _ (c.in-Err.ensures.in_turn parts may.1) c.remove.ensures (inl may.1)
 
 pub returns-in-Err-clause-fails : goal.returns-in-Err-clause-fails
 returns-in-Err-clause-fails g c = has_before Fails _ _ _ (follows_on _ _ _ _ (follows_none _) c.remove.ensures) c.in-Err.ensures.fails
