@@ -5,16 +5,14 @@ pub mod PackedAway
 pub mod PackedSoFar
 pub mod PartOpens
 pub mod PartsBring
-pub mod PartsInTurn
+pub mod PartRefusals
 pub mod BroughtParts
 pub mod Removals
-pub mod Removed
 pub mod SummedSoFar
 pub mod Puts
 pub mod CanonicalJoins
 pub mod Fronts
 pub mod HeadLengths
-pub mod WholeFolders
 pub mod IdleLoads
 pub mod PartNames
 pub mod PartsCover

@@ -1,13 +1,10 @@
 -- The parts of a folder, each of which has a name and bytes, as one replica.
 use Rattle.std.specs.Prelude.{◌≡◌, ◌≢◌, ◌⊎◌, ℕ, ◌+◌, List, [], ◌∷◌, map as each, take, slice_get, Option, Some, Result, Ok, Err}
-use Rattle.std.specs.Io.KnownBytes.{Appends}
-use Rattle.table_model.specs.Faults.{AppendsFront}
 use Rattle.table_model.specs.declared.refusal.Refusal.{Refusal}
-use Rattle.table_model.specs.declared.refusal.Refusal.TheVariants.{WriteFault}
 use Rattle.replica_store.specs.Replica.{Replica}
 use Rattle.column_file.specs.Input.{IsUnread}
 use Rattle.replica_reports.specs.Held.{held_in}
-use Rattle.replica_changes.specs.Commands.{file_of, as_held, merged_with, merged_files}
+use Rattle.replica_changes.specs.Commands.{merged_with, merged_files}
 use Rattle.folder_parts.specs.PartName.{part_name}
 use Rattle.folder_parts.specs.declared.fault.PartFault.{PartFault}
 use Rattle.folder_parts.specs.declared.fault.PartFault.TheVariants.{Damaged, Refused}
@@ -64,11 +61,6 @@ pub record StopsAt (refusal : PartRefusal) (old : Replica) (parts : List PartFor
   pub joined : merged_with old (bytes_of (take at parts)) ≡ Ok held
   pub fault : IsFaultOf refusal.fault part (merged_with held (part.bytes ∷ []))
 
--- parts were joined to what a call answers, or it is refused
-abbrev pub JoinsParts : {X : Type 0} → (X → Replica) → Result X PartRefusal → Replica → List PartForm → Type 0
-JoinsParts view (Ok x) old parts = AreWhole parts × (merged_with old (bytes_of parts) ≡ Ok (view x))
-JoinsParts view (Err refusal) old parts = StopsAt refusal old parts
-
 -- The first part is at fault, whose place is 0; or it is opened, and a further one is at fault.
 abbrev pub IsPartRefusal : PartRefusal → PartForm → List PartForm → Type 0
 IsPartRefusal refusal first others =
@@ -80,23 +72,8 @@ abbrev pub OpensParts : {X : Type 0} → (X → Replica) → Result X PartRefusa
 OpensParts view (Ok x) first others = AreWhole (first ∷ others) × (merged_files first.bytes (bytes_of others) ≡ Ok (view x))
 OpensParts view (Err refusal) first others = IsPartRefusal refusal first others
 
--- A pack was written: the canonical file of what all parts hold, which is read as that. Or the first part at fault is reported, and nothing
--- was written; or memory ran out, and nothing was written; or a write failed after a front.
-abbrev pub PacksParts : Result (Unit {0}) PartRefusal → Option (List ℕ) → Option (List ℕ) → PartForm → List PartForm → Type 0
-PacksParts (Ok done) before now first others =
-    (pack : Replica) × OpensParts {X = Replica} (λ r. r) (Ok pack) first others × Appends before now (file_of pack) × (held_in (file_of pack) ≡ Ok (as_held pack))
-PacksParts (Err refusal) before now first others =
-    ((now ≡ before) × IsPartRefusal refusal first others)
-    ⊎ ((refusal.fault ≡ Refused WriteFault) × ((pack : Replica) × OpensParts {X = Replica} (λ r. r) (Ok pack) first others × AppendsFront before now (file_of pack)))
-
 -- ---- parts that are read
 
 -- a part is this one: its name, and what its reader has
 abbrev pub IsPart : {D : Type 0} → (D → Option (List ℕ)) → List ℕ × (D × ℕ) → PartForm → Type 0
 IsPart remaining part form = (part.0 ≡ form.name) × (remaining part.1.0 ≡ Some form.bytes)
-
--- parts are these
-abbrev pub AreParts : {D : Type 0} → (D → Option (List ℕ)) → List (List ℕ × (D × ℕ)) → List PartForm → Type 0
-AreParts remaining [] [] = Unit {0}
-AreParts remaining (part ∷ parts) (form ∷ forms) = IsPart remaining part form × AreParts remaining parts forms
-AreParts remaining parts forms = ⊥

@@ -54,15 +54,6 @@ pub struct PartRefusal {
     pub fault: PartFault,
 }
 
-impl PartFault {
-    /// The refusal of the part at a place.
-    pub(crate) fn at(self, part: usize) -> PartRefusal
-        ensures { result ≡ record { part = part; fault = self } }
-    {
-        PartRefusal { part, fault: self }
-    }
-}
-
 /// The part's place, from 0, and its fault.
 impl fmt::Display for PartRefusal {
     fn fmt<W: fmt::Write>(&self, f: &mut fmt::Formatter<W>) -> fmt::Result {

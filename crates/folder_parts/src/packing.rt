@@ -1,10 +1,6 @@
-//! Which parts are packed, and which of these are removed.
-ghost use Rattle.std.specs.Prelude.{◌≡◌, ◌+◌, ◌*◌, ◌<◌, cond, nat_le, map, string_bytes};
-ghost use Rattle.std.specs.List.{list_any};
-ghost use Rattle.table_model.specs.Identifier.{same_text};
-ghost use Rattle.folder_parts.specs.Packing.{IsPackedPrefix, is_removed};
-
-use table_model::same_text;
+//! Which parts are packed.
+ghost use Rattle.std.specs.Prelude.{◌≡◌, ◌+◌, ◌*◌, ◌<◌, cond, nat_le};
+ghost use Rattle.folder_parts.specs.Packing.{IsPackedPrefix};
 
 /// How many times the bytes of a part that is packed go into those of the parts before it.
 const TIMES: u128 = 7;
@@ -33,22 +29,4 @@ pub fn packed_prefix(sizes: &[u64]) -> usize
         before += u128::from(sizes[index]);
     }
     count
-}
-
-/// Whether a name is among others.
-fn is_among(names: &[String], name: &str) -> bool
-    ensures { result ≡ list_any (λ other. same_text (string_bytes other) name.now) names.now }
-{
-    names
-        .iter()
-        .any(|other| same_text(other.as_bytes(), name.as_bytes()))
-}
-
-/// Whether a part is removed once the parts of these names were joined to a part that is named `pack`: it was joined, and is not the
-/// pack itself.
-#[tactic(auto, unfolding(crate::specs::Packing::is_removed))]
-pub fn is_removed(joined: &[String], pack: &str, name: &str) -> bool
-    ensures { result ≡ is_removed (map string_bytes joined.now) pack.now name.now }
-{
-    !same_text(name.as_bytes(), pack.as_bytes()) && is_among(joined, name)
 }

@@ -4,7 +4,6 @@ ghost use Rattle.sha2.specs.Sha512.{sha512};
 ghost use Rattle.column_file.specs.Input.{IsUnread, ReadsWhole, is_unread};
 
 use crate::comparing::digest_of;
-use column_file::read_input;
 use std::alloc::Global;
 use std::io::Read;
 use std::marker::Model;
@@ -51,17 +50,6 @@ impl<R> Part<R> {
 }
 
 impl<R: Read> Part<R> {
-    /// The bytes, read to the end of the reader. `ReadFault` if a read fails or more than 2^48 bytes come, and `Memory` if there is no memory
-    /// for what came.
-    pub(crate) fn read(&mut self, alloc: Global) -> Result<Vec<u8>, Refusal>
-        ensures name { self.new.0 ≡ self.old.0 }
-        ensures bytes { IfOk result (λ bytes. (input : List ℕ) → R.remaining self.old.1.0 ≡ Some input → bytes.items ≡ input) }
-        ensures refused { IfErr result IsUnread }
-        ensures reads { ReadsWhole R.remaining is_unread self.old.1 self.new.1 result }
-    {
-        read_input(alloc, &mut self.reader)
-    }
-
     /// The SHA-512 of the bytes, read to the end of the reader. `ReadFault` if a read fails or more than 2^48 bytes come, and `Memory`
     /// if there is no memory for a buffer.
     pub(crate) fn digest(&mut self, alloc: Global) -> Result<[u8; 64], Refusal>

@@ -12,6 +12,7 @@ ghost use Rattle.folder_parts.specs.Skims.{HasNoneOf, IsOpenedOr, SkimsDeletions
 use crate::fault::PartFault;
 use crate::joining::open_part;
 use column_file::skim;
+use replica_changes::is_one_of;
 use replica_store::{Offer, Store};
 use std::alloc::Global;
 use table_model::{BatchName, Origin, Refusal};
@@ -24,21 +25,12 @@ pub struct LoadNames {
 }
 
 impl LoadNames {
-    /// Whether a name is one of them.
-    fn holds(&self, name: BatchName) -> bool
-        ensures { result ≡ is_one_of self.now.first self.now.count name }
-    {
-        let LoadNames { first, count } = *self;
-        name.origin.0 == first.origin.0
-            && first.number.0 <= name.number.0
-            && u64::from(name.number.0) < u64::from(first.number.0) + u64::from(count)
-    }
-
     /// Whether one of some names is one of them.
     pub fn holds_any(&self, names: &[BatchName]) -> bool
         ensures { result ≡ list_any (is_one_of self.now.first self.now.count) names.now }
     {
-        names.iter().any(|name| self.holds(*name))
+        let LoadNames { first, count } = *self;
+        names.iter().any(|name| is_one_of(first, count, *name))
     }
 }
 

@@ -7,15 +7,15 @@ ghost use Rattle.folder_protocol.specs.Taking.{bytes_read};
 ghost use Rattle.folder_parts.specs.PartName.{part_name, is_part_name};
 
 use crate::part_failures::{of_other_table, refused};
-use folder_parts::{Part, PartFault, is_part, is_part_name, join_parts, part_name};
+use folder_parts::{Join, PartFault, is_part, is_part_name, part_name};
 use folder_protocol::{Record, Taker, has_name};
 use folder_system::path_in;
-use program_changes::{Headed, Heads};
+use program_changes::Heads;
 use program_failures::Failure;
 use refusal_sentences::CommandRefusal;
 use std::alloc::{AllocError, Global};
 use std::fs::Files;
-use table_model::{Counted, Refusal};
+use table_model::Refusal;
 
 /// A new part of a folder, with the names of the folder that were seen before.
 #[derive(Drop)]
@@ -62,21 +62,25 @@ impl<'a, R: Files + AllocGlobal> Judge<'a, R> {
 }
 
 /// Why a part with these bytes does not go with another one, if it does not.
-fn fault_between<'x>(
+fn fault_between(
     alloc: Global,
-    heads: &'x Heads,
-    own: &'x [u8],
+    heads: &Heads,
+    own: &[u8],
     name: &str,
-    bytes: &'x [u8],
+    bytes: &[u8],
 ) -> Result<Option<PartFault>, AllocError> {
     let own_name = part_name(alloc, own)?;
-    let mut first = Part::new(own_name, Counted::new(Headed::new(heads, own)));
-    let mut others = Vec::new(alloc);
-    let reader = Counted::new(Headed::new(heads, bytes));
-    others.push(Part::new(String::from_str(alloc, name)?, reader))?;
-    match join_parts(alloc, &mut first, others.as_mut_slice()) {
-        Ok(_store) => Ok(None),
-        Err(refusal) => Ok(Some(refusal.fault)),
+    heads.begin();
+    heads.take(own);
+    let join = match Join::new(alloc, own_name.as_str(), own) {
+        Ok(join) => join,
+        Err(fault) => return Ok(Some(fault)),
+    };
+    heads.begin();
+    heads.take(bytes);
+    match join.with_part(alloc, name, bytes) {
+        Ok(_joined) => Ok(None),
+        Err(fault) => Ok(Some(fault)),
     }
 }
 

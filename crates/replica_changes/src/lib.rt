@@ -26,4 +26,5 @@ pub use importing::{Imported, import, import_load};
 pub use laws::{drawn_names_are_free, dump_laws, file_laws, forget_file_laws};
 pub use load::Load;
 pub use merging::merge;
+pub use naming::is_one_of;
 pub use new_file::{create, file_schema};

@@ -24,7 +24,7 @@ fn named_by(word: u64) -> BatchName
 }
 
 /// Whether a name is one of a number of consecutive names from a first one on.
-fn is_one_of(first: BatchName, count: u32, name: BatchName) -> bool
+pub fn is_one_of(first: BatchName, count: u32, name: BatchName) -> bool
     ensures { result ≡ is_one_of first count name }
 {
     name.origin.0 == first.origin.0

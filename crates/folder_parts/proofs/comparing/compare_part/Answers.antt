@@ -2,7 +2,7 @@
 use Rattle.std.proofs.Common.{◌≡◌, ◌∙◌, true, false, sym, ap}
 use Rattle.std.proofs.lemmas.Result.{err_from_is_err_and}
 use Rattle.folder_parts.specs.PartName.{name_by, part_name}
-use Rattle.folder_parts.proofs.PartsInTurn.{unread_ends}
+use Rattle.folder_parts.proofs.PartRefusals.{unread_ends}
 use Rattle.folder_parts.proofs.comparing.compare_part.Goals as goal
 
 pub returns-in_err-digest-clause-ends : goal.returns-in_err-digest-clause-ends

@@ -1,7 +1,7 @@
 -- Which refusals a part's bytes have.
 use Rattle.std.proofs.lemmas.Result.{err_from_is_err_and}
 use Rattle.replica_store.specs.Segments.{StoreForm}
-use Rattle.folder_parts.proofs.PartsInTurn.{open_listed}
+use Rattle.folder_parts.proofs.PartRefusals.{open_listed}
 use Rattle.folder_parts.proofs.joining.open_part.Goals as goal
 
 pub returns-in_err-store-clause-listed : goal.returns-in_err-store-clause-listed

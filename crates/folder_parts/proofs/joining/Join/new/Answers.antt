@@ -1,6 +1,6 @@
 -- Which refusals the join of one part has.
 use Rattle.std.proofs.lemmas.Result.{err_from_is_err_and}
-use Rattle.folder_parts.proofs.PartsInTurn.{lack_listed}
+use Rattle.folder_parts.proofs.PartRefusals.{lack_listed}
 use Rattle.folder_parts.proofs.joining.Join.new.Goals as goal
 
 pub returns-in_err-joined-clause-listed : goal.returns-in_err-joined-clause-listed

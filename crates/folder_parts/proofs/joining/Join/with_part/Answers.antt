@@ -2,7 +2,7 @@
 use Rattle.folder_parts.proofs.CanonicalJoins.{joined_canonical}
 use Rattle.std.proofs.lemmas.Result.{err_from_is_err_and}
 use Rattle.replica_store.specs.Segments.{StoreForm}
-use Rattle.folder_parts.proofs.PartsInTurn.{unjoined_listed}
+use Rattle.folder_parts.proofs.PartRefusals.{unjoined_listed}
 use Rattle.folder_parts.proofs.joining.Join.with_part.Goals as goal
 
 pub invariant_of-result : goal.invariant_of-result

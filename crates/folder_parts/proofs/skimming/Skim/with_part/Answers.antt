@@ -2,7 +2,7 @@
 use Rattle.std.specs.Prelude.{ℕ}
 use Rattle.replica_store.specs.Replica.{Replica}
 use Rattle.folder_parts.proofs.EnoughOfParts.{joined_part, opened_compared, unjoined_part}
-use Rattle.folder_parts.proofs.PartsInTurn.{unjoined_listed}
+use Rattle.folder_parts.proofs.PartRefusals.{unjoined_listed}
 use Rattle.folder_parts.proofs.skimming.Skim.with_part.Goals as goal
 
 pub fault_of-requires : goal.fault_of-requires
