@@ -24,7 +24,7 @@ pub struct Applied {
 }
 
 /// Applies offers to a store, one after another, and moves their segments into it; answers whether the store has changed.
-pub fn apply_all(alloc: Global, store: &mut Store, mut offers: Vec<Offer>) -> Result<bool, Refusal>
+fn apply_all(alloc: Global, store: &mut Store, mut offers: Vec<Offer>) -> Result<bool, Refusal>
     ensures makes { Makes (λ is_changed. tt) (λ is_changed. is_changed) store.old.replica result store.new.replica (applied_all store.old.replica offers.items) }
     ensures refused { IfErr result (λ e. IsTrue (is_refusal_of_merge e)) }
 {

@@ -1,9 +1,8 @@
 //! Deleting rows of a replica in a file.
 ghost use Rattle.std.specs.Prelude.{◌≡◌, ◌==◌, not, IsTrue, IfErr};
-ghost use Rattle.replica_store.specs.Replica.{deleted_rows};
 ghost use Rattle.store_view.specs.Asked.{is_refusal_of_condition};
 ghost use Rattle.replica_changes.specs.Commands.{Changes, Makes, deleting};
-ghost use Rattle.replica_changes.specs.Refusals.{Ends, is_refusal_of_range};
+ghost use Rattle.replica_changes.specs.Refusals.{Ends};
 
 use crate::file_writing::write_changed;
 use column_file::open;
@@ -11,7 +10,7 @@ use replica_store::Store;
 use std::alloc::Global;
 use std::io::{Read, Write};
 use store_view::names_where;
-use table_model::{Counted, Origin, Refusal, RowName};
+use table_model::{Counted, Origin, Refusal};
 
 /// What a delete by a condition did. The file has changed if there were such rows.
 #[derive(Clone, Copy, Debug, PartialEq, Eq)]
@@ -55,41 +54,5 @@ pub fn delete<R: Read, W: Write>(
     let mut store = open(alloc, reader, Origin(1))?;
     let done = delete_where(alloc, &mut store, condition)?;
     write_changed(alloc, &store, done.rows != 0, writer)?;
-    Ok(done)
-}
-
-/// Deletes a range of rows of a batch of a store, held there or not.
-fn delete_range(
-    alloc: Global,
-    store: &mut Store,
-    first: RowName,
-    last: u16,
-) -> Result<DeletedRows, Refusal>
-    ensures makes { Makes (λ done. tt) (λ done. done.is_changed) store.old.replica result store.new.replica (deleted_rows store.old.replica first last) }
-    ensures refused { IfErr result (λ e. IsTrue (is_refusal_of_range e)) }
-{
-    let is_changed = store.delete(alloc, first, last)?;
-    Ok(DeletedRows { is_changed })
-}
-
-/// Deletes the rows of a batch of a file from the first to the ordinal `last`, both included, held there or not, and writes the
-/// file anew if one of them wasn't deleted.
-///
-/// Refused are, in this order, what [`open`] refuses; `BadName` if the batch's origin or number is 0; `BadRange` if `last` is
-/// less than the first ordinal; `Memory`, which may come in the place of any of them; `WriteFault`. Only with the last anything is
-/// written: a front.
-pub fn delete_rows<R: Read, W: Write>(
-    alloc: Global,
-    reader: &mut Counted<R>,
-    first: RowName,
-    last: u16,
-    writer: &mut Counted<W>,
-) -> Result<DeletedRows, Refusal>
-    ensures made { Changes (λ done. tt) (λ done. done.is_changed) result (R.remaining reader.old.0) (W.contents writer.old.0) (W.contents writer.new.0) (λ r. deleted_rows r first last) }
-    ensures ends { Ends R.remaining W.contents is_refusal_of_range (λ r. deleted_rows r first last) reader.old reader.new writer.old writer.new result }
-{
-    let mut store = open(alloc, reader, Origin(1))?;
-    let done = delete_range(alloc, &mut store, first, last)?;
-    write_changed(alloc, &store, done.is_changed, writer)?;
     Ok(done)
 }

@@ -15,11 +15,11 @@ mod merging;
 mod naming;
 mod new_file;
 
-pub use applying::{Applied, apply, apply_all, apply_offers};
+pub use applying::{Applied, apply, apply_offers};
 pub use bringing::bring;
 pub use command::{Answer, Command};
 pub use csv_reading::read_csv;
-pub use deleting::{Deleted, DeletedRows, delete, delete_rows};
+pub use deleting::{Deleted, DeletedRows, delete};
 pub use file_writing::write_changed;
 pub use forgetting::{forget, forget_dead};
 pub use importing::{Imported, import, import_load};
