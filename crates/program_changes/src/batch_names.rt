@@ -6,12 +6,10 @@ use folder_parts::HEAD_BYTES;
 use std::alloc::Global;
 use std::mem::replace;
 use table_model::{BatchName, Number, Origin};
-
-/// How many rows a vector has at most.
-const VECTOR_ROWS: usize = 1024;
+use transpose_order::VECTOR_ROWS;
 
 /// How many bytes a vector takes for each bit of a row, as a mask does.
-const MASK_BYTES: usize = 128;
+const MASK_BYTES: usize = VECTOR_ROWS / 8;
 
 /// How many bytes the greatest field has that is looked at.
 const FIELD_BYTES: usize = 10;
