@@ -11,16 +11,15 @@ ghost use Rattle.file_commands.specs.Refused.{IsRefusedOver, IsWhyRefused};
 ghost use Rattle.file_commands.specs.Rewriting.{Rewrites};
 
 use crate::Outcome;
-use crate::rewriting::{joined, opened, written};
+use crate::rewriting::{opened, written};
 use crate::under_lock::{finish, leave, read_file};
 use file_protocol::{FileFolder, Place};
-use replica_changes::{Answer, Command, bring};
+use replica_changes::{Answer, Command, change_store};
 use replica_store::Store;
 use std::alloc::Global;
 use table_model::Refusal;
 
-/// What a command answers of a store, and the bytes of the file after, which are none if nothing changed. What the command brings is moved
-/// into the store.
+/// What a command answers of a store, and the bytes of the file after, which are none if nothing changed.
 pub(crate) fn made(
     alloc: Global,
     held: Store,
@@ -30,8 +29,7 @@ pub(crate) fn made(
         (λ made. Rewrites answer_of has_changed held.replica made.0 made.1.items (adding (command_of command.entry)))
         (λ e. (adding (command_of command.entry) held.replica ≡ Err e) ⊎ (e ≡ Memory)) }
 {
-    let (answer, brought) = bring(alloc, &held, command)?;
-    let store = joined(alloc, held, brought)?;
+    let (answer, store) = change_store(alloc, held, command)?;
     let new = written(alloc, &store, answer.is_changed())?;
     Ok((answer, new))
 }

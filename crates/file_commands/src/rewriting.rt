@@ -2,13 +2,12 @@
 ghost use Rattle.std.specs.Prelude.{◌≡◌, [], Some, Ok, MatchResult};
 ghost use Rattle.table_model.specs.Reading.{Reads};
 ghost use Rattle.table_model.specs.declared.refusal.Refusal.TheVariants.{Memory};
-ghost use Rattle.replica_store.specs.Replica.{merged};
 ghost use Rattle.replica_reports.specs.Held.{held_in};
 ghost use Rattle.replica_changes.specs.Commands.{Puts};
 
 use column_file::open_bytes;
 use replica_changes::write_changed;
-use replica_store::{Joined, Store};
+use replica_store::Store;
 use std::alloc::Global;
 use table_model::{Counted, Origin, Refusal};
 
@@ -17,15 +16,6 @@ pub(crate) fn opened(alloc: Global, file: Vec<u8>) -> Result<Store, Refusal>
     ensures { Reads (λ store. store.replica) result (held_in file.items) }
 {
     open_bytes(alloc, file.as_slice(), Origin(1))
-}
-
-/// The store that has what two have, as a merge makes it. No segment is copied.
-pub(crate) fn joined(alloc: Global, held: Store, brought: Store) -> Result<Store, Refusal>
-    ensures { Reads (λ store. (tt, store.replica)) result (merged held.replica brought.replica) }
-{
-    let alone = Joined::new(alloc, held)?;
-    let both = alone.with(alloc, brought)?;
-    both.into_store(alloc)
 }
 
 /// The bytes of a store's canonical file if it has changed, and else none.

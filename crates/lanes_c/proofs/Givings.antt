@@ -12,7 +12,9 @@ use Rattle.replica_store.specs.Replica.{Replica}
 use Rattle.replica_store.specs.Segments.{StoreForm}
 use Rattle.table_model.specs.State.{State}
 use Rattle.replica_reports.specs.Held.{held_in}
-use Rattle.replica_changes.specs.Commands.{file_of, file_made, written_of, Made, Refuses, Leaves, Changes, Merges, applying}
+use Rattle.replica_changes.specs.CommandForms.{Apply}
+use Rattle.replica_changes.specs.Commands.{file_of, file_made, written_of, Made, Makes, Puts, Refuses, Leaves, Changes, Merges}
+use Rattle.replica_changes.proofs.CommandSteps.{written_changes}
 use Rattle.replica_reports.specs.Asking.{WritesText, Tells, IsFromOutside, answered_in, no_report, offer_of, offer_text, text_report}
 use Rattle.answer_formats.specs.Formats.{formatted}
 use Rattle.answer_formats.specs.declared.format.Format.TheVariants.{Text}
@@ -25,7 +27,7 @@ use Rattle.script_lines.specs.Line.{command_of}
 use Rattle.script_lines.specs.TableWords.{TableWords}
 use Rattle.script_lines.specs.declared.command.Command.{Command}
 use Rattle.script_lines.specs.declared.command.Command.TheVariants.{Table as MakesTable}
-use Rattle.lanes_c.specs.Calls.{Yields, OffersAt, OffersTo, apply_of, create_of, empty_file_of, line_of, merge_of, words_in, query_of}
+use Rattle.lanes_c.specs.Calls.{Yields, OffersAt, OffersTo, apply_of, change_of, create_of, empty_file_of, line_of, merge_of, words_in, query_of}
 use Rattle.lanes_c.specs.Faults.{told}
 use Rattle.lanes_c.specs.Opened.{IsWhyNotOpened}
 use Rattle.lanes_c.specs.Rooms.{Given}
@@ -92,6 +94,32 @@ refused_given {X = X} view changed e fault file input start now command is same 
     let Q : List ℕ → Type 0 = λ s. Changes {X = X} view changed (Err e) (Some file) (Some s) now command in
     let R : Fault → Type 0 = λ f. Yields (Err f) (file_made (held_in file >>= command)) in
     subst R (sym is) (refused_yields e now (file_made (held_in file >>= command)) (subst Q empty (subst P same h)))
+
+-- ---- a command on what a file holds
+
+-- a file that is refused
+pub held_refused : {Y : Type 0} (e : Refusal) (file : List ℕ) (command : Replica → Made Y) → (held_in file ≡ Err e) ⊎ (e ≡ Memory) → Yields (Err (told e)) (file_made (held_in file >>= command))
+held_refused e file command (inl is) = told_why e (file_made (held_in file >>= command)) (inl (ap (λ (h : Result Replica Refusal). file_made (h >>= command)) is))
+held_refused e file command (inr lack) = told_why e (file_made (held_in file >>= command)) (inr (inl lack))
+
+-- a command that is refused over what the file holds
+pub done_refused : {Y : Type 0} (e : Refusal) (file : List ℕ) (r : Replica) (command : Replica → Made Y) → held_in file ≡ Ok r → (command r ≡ Err e) ⊎ (e ≡ Memory) → Yields (Err (told e)) (file_made (held_in file >>= command))
+done_refused {Y = Y} e file r command held (inl is) = told_why e (file_made (held_in file >>= command)) (inl (ap (λ (h : Result Replica Refusal). file_made (h >>= command)) held ∙ ap (λ (m : Made Y). file_made m) is))
+done_refused e file r command held (inr lack) = told_why e (file_made (held_in file >>= command)) (inr (inl lack))
+
+-- a file that isn't written
+pub done_unwritten : (b : Bool) (e : Refusal) (before now : Option (List ℕ)) (r : Replica) (meaning : Result (List ℕ) Refusal) → Puts b (Err e) before now r → Yields (Err (told e)) meaning
+done_unwritten true e before now r meaning (inl lack) = told_why e meaning (inr (inl lack.0))
+done_unwritten true e before now r meaning (inr fault) = told_write e meaning fault.0
+done_unwritten false e before now r meaning put = absurd put
+
+-- a file that was written, or left as it was
+pub done_given : {X Y : Type 0} (view : X → Y) (changed : X → Bool) (x : X) (is : Bool) (given : Given) (file start written : List ℕ) (old new : Replica) (command : Replica → Made Y)
+    → start ≡ [] → is ≡ changed x → held_in file ≡ Ok old → Makes view changed old (Ok x) new (command old) → Puts is (Ok tt) (Some start) (Some written) new → LeftBy given is written file → Yields given (file_made (held_in file >>= command))
+done_given view changed x is given file start written old new command empty says held made put left =
+    let P : List ℕ → Type 0 = λ s. Puts is (Ok tt) (Some s) (Some written) new in
+    let whole : Changes view changed (Ok x) (Some file) (Some []) (Some written) command = written_changes (λ (r : Replica). r) old view changed x is (Some file) (Some []) (Some written) new command (sym says) held made (subst P empty put) in
+    changes_yield view changed x given file written command whole (subst (λ (b : Bool). LeftBy given b written file) says left)
 
 -- the table of a line
 pub created_given : (given : Given) (words line slice : List ℕ) (table : TableWords) → slice ≡ line → line ≡ line_of words → command_of slice ≡ Some (MakesTable table) → Yields given (empty_file_of table)
@@ -224,8 +252,8 @@ lines_given given done start written w w' text taken empty h =
     gives (Err WriteFault) h = inr (inl refl)
     gives (Err other) h = absurd h
 
-pub applied_given : (given : Given) (o : OfferForm) (offers : List OfferForm) (offer input file : List ℕ) → offers ≡ o ∷ [] → input ≡ offer → offer_read input ≡ Ok o → Yields given (file_made (held_in file >>= applying offers)) → Yields given (apply_of offer file)
+pub applied_given : (given : Given) (o : OfferForm) (offers : List OfferForm) (offer input file : List ℕ) → offers ≡ o ∷ [] → input ≡ offer → offer_read input ≡ Ok o → Yields given (change_of (Apply offers) file) → Yields given (apply_of offer file)
 applied_given given o offers offer input file one same read h =
     let read_there : offer_read offer ≡ Ok o = ap offer_read (sym same) ∙ read in
-    let made : Yields given (file_made (held_in file >>= applying (o ∷ []))) = subst (λ (os : List OfferForm). Yields given (file_made (held_in file >>= applying os))) one h in
-    subst (Yields given) (sym (ap (λ (x : Result OfferForm Refusal). x >>= λ (p : OfferForm). file_made (held_in file >>= applying (p ∷ []))) read_there)) made
+    let made : Yields given (change_of (Apply (o ∷ [])) file) = subst (λ (os : List OfferForm). Yields given (change_of (Apply os) file)) one h in
+    subst (Yields given) (sym (ap (λ (x : Result OfferForm Refusal). x >>= λ (p : OfferForm). change_of (Apply (p ∷ [])) file) read_there)) made

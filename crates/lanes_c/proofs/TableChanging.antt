@@ -1,44 +1,39 @@
 -- A copy of a store, what a change of it makes, and what a handle has then.
-use Rattle.std.specs.Prelude.{◌≡◌, ◌⊎◌, ◌≤◌, ◌==◌, ℕ, Bool, true, false, cond, List, [], ◌∷◌, MatchOption, length, not, Option, Some, None, Result, Ok, Err, IsOk, IsTrue}
+use Rattle.std.specs.Prelude.{◌≡◌, ◌⊎◌, ◌≤◌, ◌==◌, ℕ, Bool, false, cond, List, [], ◌∷◌, MatchOption, not, Option, Some, None, Result, Ok, Err, IsOk}
 use Rattle.std.proofs.Common.{refl, sym, ap, subst, ◌∙◌, inl, inr, arith}
 use Rattle.std.proofs.lemmas.Bool.Decides.{nat_tests}
 use Rattle.std.specs.FinMap as map
 use Rattle.std.specs.FinSet as set
-use Rattle.std.specs.List.{All}
 use Rattle.std.specs.Str.Lossy.{utf8_valid_len}
-use Rattle.table_model.specs.Name.{name_cmp, is_proper_name}
+use Rattle.table_model.specs.Name.{name_cmp}
 use Rattle.table_model.specs.Outcome.{Gives}
 use Rattle.table_model.specs.Reading.{◌>>=◌}
 use Rattle.table_model.specs.State.{Batch, State}
-use Rattle.table_model.specs.Table.{Table as Schema, same_table}
+use Rattle.table_model.specs.Table.{Table as Schema}
 use Rattle.table_model.specs.declared.names.BatchName.{BatchName}
 use Rattle.table_model.specs.declared.names.Origin.{Origin}
-use Rattle.table_model.specs.declared.names.RowName.{RowName}
 use Rattle.table_model.specs.declared.refusal.Refusal.{Refusal}
 use Rattle.table_model.specs.declared.refusal.Refusal.TheVariants.{BadName, Memory, ReadFault, Syntax, WriteFault, SchemaDiffers}
 use Rattle.table_model.proofs.Joins.{same_maps}
 use Rattle.table_model.proofs.SameTable.{itself_table}
 use Rattle.column_file.specs.Files.{offer_read}
-use Rattle.column_file.specs.Input.{IsUnread}
 use Rattle.replica_store.specs.Exchange.{OfferForm, SummaryForm, empty_summary, offered, offering, opened, unlisted, unlisted_state}
 use Rattle.replica_store.specs.Forgets.{forgotten_batches}
-use Rattle.replica_store.specs.Replica.{Replica, deleted_names, with_deleted}
+use Rattle.replica_store.specs.Replica.{Replica}
 use Rattle.replica_store.specs.Segments.{StoreForm}
 use Rattle.replica_store.proofs.Offers.{get-unlisted}
-use Rattle.replica_changes.specs.Commands.{Made, Makes, applying, deleting}
+use Rattle.replica_changes.specs.CommandForms.{Import, Apply}
+use Rattle.replica_changes.specs.Commands.{Made}
 use Rattle.replica_changes.specs.Loads.{LoadForm}
-use Rattle.replica_changes.proofs.StoreCommands.{deletes_ok, only_memory}
-use Rattle.store_view.specs.Asked.{condition_names}
 use Rattle.lanes_c.specs.Calls.{Asks, Yields}
 use Rattle.lanes_c.specs.Faults.{nowhere, told}
 use Rattle.lanes_c.specs.Importing.{LoadsText}
 use Rattle.lanes_c.specs.Opened.{IsToldAs}
-use Rattle.lanes_c.specs.TableChanges.{Changed, ChangesOpen, ImportsText, IsShared, TellsChange, left_open, replica_made, with_load, with_offer, without_dead}
+use Rattle.lanes_c.specs.TableChanges.{Changed, ChangesOpen, ImportsText, IsShared, TellsChange, replica_made, with_command, with_offer, without_dead}
 use Rattle.lanes_c.specs.declared.fault.Fault.{Fault}
 use Rattle.lanes_c.specs.declared.fault.Fault.TheVariants.{NotOpen, Refused}
 use Rattle.lanes_c.specs.declared.fault.Place.{Place}
 use Rattle.lanes_c.specs.declared.handle.Table.{Table}
-use Rattle.lanes_c.proofs.Givings.{told_why}
 
 -- ---- a copy
 
@@ -110,21 +105,6 @@ copy_is r copy is = let same : r ≡ copy = cc in sym same
 pub copy_lacks : (r : Replica) (e : Refusal) (meaning : Result Replica Refusal) → Gives {X = StoreForm} (λ (s : StoreForm). s.replica) (Err e) (Ok r) → Yields {X = Replica} (Err (told e)) meaning
 copy_lacks r e meaning why = change_refused e meaning (inr (lacks r e (Ok r) refl why))
 
--- rows that a condition finds
-pub rows_refused : (text : List ℕ) (r : Replica) (e : Refusal) → (condition_names text r.schema r.state ≡ Err e) ⊎ (e ≡ Memory) → Yields {X = Replica} (Err (told e)) (replica_made (deleting text r))
-rows_refused text r e (inl is) = change_refused e (replica_made (deleting text r)) (inl (ap (λ (found : Result (List RowName) Refusal). replica_made (found >>= λ (names : List RowName). let made : Made ℕ = Ok (length names, with_deleted r names) in made)) is))
-rows_refused text r e (inr is) = change_refused e (replica_made (deleting text r)) (inr is)
-
-pub rows_lack : (r copy : Replica) (names slice : List RowName) (e : Refusal) (meaning : Result Replica Refusal) → All (λ (row : RowName). IsTrue (is_proper_name row.batch)) names → slice ≡ names
-    → (deleted_names copy slice ≡ Err e) ⊎ ((e ≡ Memory) × IsOk (deleted_names copy slice)) → Yields {X = Replica} (Err (told e)) meaning
-rows_lack r copy names slice e meaning proper same why = change_refused e meaning (inr (only_memory copy names slice e proper same why))
-
-pub rows_gone : (text : List ℕ) (r copy new : Replica) (names slice : List RowName) (u : Unit {0}) → copy ≡ r → condition_names text r.schema r.state ≡ Ok names → slice ≡ names → deleted_names copy slice ≡ Ok (u, new) → replica_made (deleting text r) ≡ Ok new
-rows_gone text r copy new names slice u same finds is deleted =
-    let there : deleted_names r slice ≡ Ok (u, new) = ap (λ (x : Replica). deleted_names x slice) (sym same) ∙ deleted in
-    let done : Makes (λ (n : ℕ). n) (λ (n : ℕ). not (n == 0)) r (Ok (length names)) new (deleting text r) = deletes_ok (λ (n : ℕ). n) (length names) text r new names slice u finds is refl there in
-    ap (λ (m : Made ℕ). replica_made m) done.0
-
 -- batches that were dropped
 pub dead_gone : (r copy new : Replica) → copy ≡ r → forgotten_batches copy ≡ Ok (tt, new) → without_dead r ≡ Ok new
 dead_gone r copy new same done =
@@ -140,17 +120,17 @@ pub offer_refused : (e : Refusal) (offer input : List ℕ) (r : Replica) → inp
 offer_refused Memory offer input r same h = inr (inl refl)
 offer_refused ReadFault offer input r same h = inr (inr refl)
 offer_refused WriteFault offer input r same h = inr (inl refl)
-offer_refused other offer input r same h = inl (ap (λ (x : Result OfferForm Refusal). x >>= λ (p : OfferForm). replica_made (applying (p ∷ []) r)) (ap offer_read (sym same) ∙ h (λ is. cc) (λ is. cc)))
+offer_refused other offer input r same h = inl (ap (λ (x : Result OfferForm Refusal). x >>= λ (p : OfferForm). with_command (Apply (p ∷ [])) r) (ap offer_read (sym same) ∙ h (λ is. cc) (λ is. cc)))
 
 -- an offer that was read
-pub offer_there : (changed : Changed) (o : OfferForm) (offer input : List ℕ) (r : Replica) (offers : List OfferForm) → input ≡ offer → offer_read input ≡ Ok o → offers ≡ o ∷ [] → Yields changed (replica_made (applying offers r)) → Yields changed (with_offer offer r)
+pub offer_there : (changed : Changed) (o : OfferForm) (offer input : List ℕ) (r : Replica) (offers : List OfferForm) → input ≡ offer → offer_read input ≡ Ok o → offers ≡ o ∷ [] → Yields changed (with_command (Apply offers) r) → Yields changed (with_offer offer r)
 offer_there changed o offer input r offers same read one h =
     let here : offer_read offer ≡ Ok o = ap offer_read (sym same) ∙ read in
-    let Q : List OfferForm → Type 0 = λ os. Yields changed (replica_made (applying os r)) in
-    subst (λ (m : Result Replica Refusal). Yields changed m) (sym (ap (λ (x : Result OfferForm Refusal). x >>= λ (p : OfferForm). replica_made (applying (p ∷ []) r)) here)) (subst Q one h)
+    let Q : List OfferForm → Type 0 = λ os. Yields changed (with_command (Apply os) r) in
+    subst (λ (m : Result Replica Refusal). Yields changed m) (sym (ap (λ (x : Result OfferForm Refusal). x >>= λ (p : OfferForm). with_command (Apply (p ∷ [])) r) here)) (subst Q one h)
 
 -- rows that were loaded, and imported or not
-pub text_imported : (changed : Changed) (load : LoadForm) (first : Option BatchName) (words text : List ℕ) (has_heading : Bool) (r : Replica) → LoadsText r.schema text has_heading load → Yields changed (with_load load first words r)
+pub text_imported : (changed : Changed) (load : LoadForm) (first : Option BatchName) (words text : List ℕ) (has_heading : Bool) (r : Replica) → LoadsText r.schema text has_heading load → Yields changed (with_command (Import load first words) r)
     → ImportsText changed text has_heading first words r
 text_imported (Ok new) load first words text has_heading r loads h = (load, loads, h)
 text_imported (Err fault) load first words text has_heading r loads h = inr (load, loads, h)

@@ -15,6 +15,7 @@ use Rattle.replica_store.specs.Exchange.{OfferForm, SummaryForm, offered}
 use Rattle.replica_store.specs.Replica.{Replica}
 use Rattle.store_view.specs.Asked.{query_answer}
 use Rattle.replica_reports.specs.Held.{held_in, summarizing}
+use Rattle.replica_changes.specs.CommandForms.{CommandForm, Apply, adding}
 use Rattle.replica_changes.specs.Commands as commands
 use Rattle.replica_reports.specs.Dumps.{dumping}
 use Rattle.replica_changes.specs.Forgetting.{forgetting}
@@ -72,9 +73,9 @@ empty_file_of words = schema_of words.table words.columns >>= λ table. Ok (cano
 abbrev pub create_of : List ℕ → Result (List ℕ) Refusal
 create_of text = words_in (command_of (line_of text)) >>= empty_file_of
 
--- lanes_delete: the canonical file without the rows at which a condition is true
-abbrev pub delete_of : List ℕ → List ℕ → Result (List ℕ) Refusal
-delete_of condition file = commands.file_made (held_in file >>= commands.deleting condition)
+-- the canonical file of what a file holds once a command was done on it
+abbrev pub change_of : CommandForm → List ℕ → Result (List ℕ) Refusal
+change_of command file = commands.file_made (held_in file >>= adding command)
 
 -- lanes_forget: the canonical file without the batches of which every row is deleted
 abbrev pub forget_of : List ℕ → Result (List ℕ) Refusal
@@ -86,7 +87,7 @@ summary_of file = held_in file >>= summarizing
 
 -- lanes_apply: the canonical file of what a file holds and an offer brings
 abbrev pub apply_of : List ℕ → List ℕ → Result (List ℕ) Refusal
-apply_of offer file = offer_read offer >>= λ o. commands.file_made (held_in file >>= commands.applying (o ∷ []))
+apply_of offer file = offer_read offer >>= λ o. change_of (Apply (o ∷ [])) file
 
 -- lanes_merge: the canonical file of what two files hold
 abbrev pub merge_of : List ℕ → List ℕ → Result (List ℕ) Refusal

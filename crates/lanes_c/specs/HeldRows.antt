@@ -6,7 +6,8 @@ use Rattle.table_model.specs.declared.names.BatchName.{BatchName}
 use Rattle.table_model.specs.declared.names.RowName.{RowName}
 use Rattle.table_model.specs.declared.refusal.Refusal.{Refusal}
 use Rattle.replica_store.specs.Replica.{Replica, names_of}
-use Rattle.lanes_c.specs.TableChanges.{without_range}
+use Rattle.replica_changes.specs.CommandForms.{DeleteRows}
+use Rattle.lanes_c.specs.TableChanges.{with_command}
 use Rattle.lanes_c.specs.declared.handle.Table.{Table}
 
 -- whether a replica has a batch
@@ -19,7 +20,7 @@ held_count r name = cond (holds r name) 1 0
 
 -- the replica without a range of rows of a batch, or as it is; what the range is refused as is refused in both cases
 abbrev pub without_range_if : Bool → RowName → ℕ → Replica → Result Replica Refusal
-without_range_if is_held first last r = without_range first last r >>= λ x. Ok (cond is_held x r)
+without_range_if is_held first last r = with_command (DeleteRows first last) r >>= λ x. Ok (cond is_held x r)
 
 -- lanes_table_delete_held_rows: the replica without a range of rows of a batch, if it has the batch
 abbrev pub without_held_range : RowName → ℕ → Replica → Result Replica Refusal

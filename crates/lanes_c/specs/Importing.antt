@@ -2,7 +2,6 @@
 use Rattle.std.specs.Prelude.{◌≡◌, ◌⊎◌, ℕ, ◌*◌, ◌<◌, Bool, cond, ◌&&◌, ◌==◌, List, length, Option, Some, None, Ok, Err}
 use Rattle.table_model.specs.State.{Batch}
 use Rattle.table_model.specs.Table.{Table, row_limit}
-use Rattle.table_model.specs.Reading.{◌>>=◌}
 use Rattle.table_model.specs.declared.names.BatchName.{BatchName}
 use Rattle.table_model.specs.declared.refusal.Refusal.TheVariants.{Full}
 use Rattle.column_file.specs.Input.{IsUnread}
@@ -10,10 +9,10 @@ use Rattle.replica_store.specs.Replica.{Replica, batch_limit}
 use Rattle.csv_rows.specs.CsvText.{csv_rows}
 use Rattle.csv_rows.specs.declared.error.CsvError.TheVariants as csv
 use Rattle.replica_reports.specs.Held.{held_in}
-use Rattle.replica_changes.specs.Commands.{file_made}
+use Rattle.replica_changes.specs.CommandForms.{Import}
 use Rattle.replica_changes.specs.CsvLoads.{AreCut}
-use Rattle.replica_changes.specs.Loads.{LoadForm, importing}
-use Rattle.lanes_c.specs.Calls.{Yields}
+use Rattle.replica_changes.specs.Loads.{LoadForm}
+use Rattle.lanes_c.specs.Calls.{Yields, change_of}
 use Rattle.lanes_c.specs.Opened.{IsWhyNotOpened}
 use Rattle.lanes_c.specs.Rooms.{Given}
 use Rattle.lanes_c.specs.declared.fault.Fault.{Fault}
@@ -49,7 +48,7 @@ name_given origin number = cond (origin == 0 && number == 0) None (Some (record 
 
 -- the canonical file of what a file holds and a load brings, under a name that is given or drawn of words
 abbrev pub ImportsLoad : Given → LoadForm → Option BatchName → List ℕ → List ℕ → Type 0
-ImportsLoad given load first words file = Yields given (file_made (held_in file >>= importing load first words))
+ImportsLoad given load first words file = Yields given (change_of (Import load first words) file)
 
 -- lanes_import: the canonical file of what a file holds and the rows of a text; or why these weren't loaded; or what their import is
 -- refused as

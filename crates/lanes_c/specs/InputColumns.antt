@@ -10,8 +10,9 @@ use Rattle.table_model.specs.declared.refusal.Refusal.{Refusal}
 use Rattle.table_model.specs.declared.refusal.Refusal.TheVariants.{Full, Memory, OutOfType, WrongArity}
 use Rattle.live_columns.specs.Columns.{stride_of}
 use Rattle.replica_store.specs.Replica.{Replica, batch_limit, unless_fault}
+use Rattle.replica_changes.specs.CommandForms.{Import}
 use Rattle.replica_changes.specs.Loads.{LoadForm, added_batch}
-use Rattle.lanes_c.specs.TableChanges.{with_load}
+use Rattle.lanes_c.specs.TableChanges.{with_command}
 
 -- columns that are given: how many rows and columns, their numbers and their validity bits
 pub record InputForm : Type 0 where
@@ -90,7 +91,7 @@ input_of table rows values valid = record { rows = rows; columns = length table.
 
 -- lanes_table_import_columns: the replica with the rows of columns
 abbrev pub with_columns : ℕ → List ℤ → List ℕ → Option BatchName → List ℕ → Replica → Result Replica Refusal
-with_columns rows values valid first words r = load_of_columns r.schema (input_of r.schema rows values valid) >>= λ load. with_load load first words r
+with_columns rows values valid first words r = load_of_columns r.schema (input_of r.schema rows values valid) >>= λ load. with_command (Import load first words) r
 
 -- ---- the refusal of a batch
 

@@ -7,11 +7,12 @@ use Rattle.table_model.specs.declared.names.RowName.{RowName}
 use Rattle.table_model.specs.declared.refusal.Refusal.{Refusal}
 use Rattle.table_model.specs.declared.refusal.Refusal.TheVariants.{Memory}
 use Rattle.column_file.specs.Files.{offer_read}
-use Rattle.replica_store.specs.Replica.{Replica, deleted_rows}
+use Rattle.replica_store.specs.Replica.{Replica}
 use Rattle.replica_store.specs.Segments.{StoreForm}
-use Rattle.replica_changes.specs.Commands.{Made, applying, deleting}
+use Rattle.replica_changes.specs.CommandForms.{CommandForm, Import, Apply, adding}
+use Rattle.replica_changes.specs.Commands.{Made}
 use Rattle.replica_changes.specs.Forgetting.{forgetting}
-use Rattle.replica_changes.specs.Loads.{LoadForm, importing}
+use Rattle.replica_changes.specs.Loads.{LoadForm}
 use Rattle.lanes_c.specs.Calls.{Yields}
 use Rattle.lanes_c.specs.Faults.{nowhere, number_of_fault, place_of_fault}
 use Rattle.lanes_c.specs.Importing.{IsWhyNotRead, LoadsText}
@@ -49,17 +50,13 @@ abbrev pub replica_made : {Y : Type 0} → Made Y → Result Replica Refusal
 replica_made (Ok made) = Ok made.1
 replica_made (Err e) = Err e
 
--- lanes_table_delete: the replica without the rows at which a condition is true
-abbrev pub without_rows : List ℕ → Replica → Result Replica Refusal
-without_rows condition r = replica_made (deleting condition r)
+-- the replica with what a command brings
+abbrev pub with_command : CommandForm → Replica → Result Replica Refusal
+with_command command r = replica_made (adding command r)
 
 -- the name of a row by its numbers
 abbrev pub row_name : ℕ → ℕ → ℕ → RowName
 row_name origin number ordinal = record { batch = record { origin = record { 0 = origin }; number = record { 0 = number } }; ordinal = ordinal }
-
--- lanes_table_delete_rows: the replica without a range of rows of a batch
-abbrev pub without_range : RowName → ℕ → Replica → Result Replica Refusal
-without_range first last r = replica_made (deleted_rows r first last)
 
 -- lanes_table_forget: the replica without the batches of which every row is deleted
 abbrev pub without_dead : Replica → Result Replica Refusal
@@ -67,17 +64,13 @@ without_dead r = replica_made (forgetting r)
 
 -- lanes_table_apply: the replica with what an offer brings
 abbrev pub with_offer : List ℕ → Replica → Result Replica Refusal
-with_offer offer r = offer_read offer >>= λ o. replica_made (applying (o ∷ []) r)
+with_offer offer r = offer_read offer >>= λ o. with_command (Apply (o ∷ [])) r
 
--- lanes_table_import: the replica with the batches of a load
-abbrev pub with_load : LoadForm → Option BatchName → List ℕ → Replica → Result Replica Refusal
-with_load load first words r = replica_made (importing load first words r)
-
--- the same with the rows of a text; or why these weren't loaded; or what their import is refused as
+-- lanes_table_import: the replica with the rows of a text; or why these weren't loaded; or what their import is refused as
 abbrev pub ImportsText : Changed → List ℕ → Bool → Option BatchName → List ℕ → Replica → Type 0
-ImportsText (Ok new) text has_heading first words r = (load : LoadForm) × LoadsText r.schema text has_heading load × Yields (Ok new) (with_load load first words r)
+ImportsText (Ok new) text has_heading first words r = (load : LoadForm) × LoadsText r.schema text has_heading load × Yields (Ok new) (with_command (Import load first words) r)
 ImportsText (Err fault) text has_heading first words r =
-    IsWhyNotRead r.schema text has_heading fault ⊎ ((load : LoadForm) × LoadsText r.schema text has_heading load × Yields (Err fault) (with_load load first words r))
+    IsWhyNotRead r.schema text has_heading fault ⊎ ((load : LoadForm) × LoadsText r.schema text has_heading load × Yields (Err fault) (with_command (Import load first words) r))
 
 -- ---- what is told
 

@@ -1,14 +1,16 @@
 //! The calls that make a file, and that make a file's successor: an empty table, an import, a delete, a forget.
 ghost use Rattle.std.specs.Prelude.{◌≡◌, ◌++◌, codes, IfOk, IfErr};
-ghost use Rattle.lanes_c.specs.Calls.{Yields, Asks, create_of, delete_of, empty_file_of, forget_of, line_of};
-ghost use Rattle.lanes_c.specs.Importing.{Loads, LoadsText, IsWhyNotLoaded, IsWhyNotRead, ImportsLoad, Imports, name_given};
+ghost use Rattle.replica_changes.specs.CommandForms.{Delete};
+ghost use Rattle.lanes_c.specs.Calls.{Yields, Asks, change_of, create_of, empty_file_of, forget_of, line_of};
+ghost use Rattle.lanes_c.specs.Importing.{Loads, LoadsText, IsWhyNotLoaded, IsWhyNotRead, Imports, name_given};
 ghost use Rattle.lanes_c.specs.Rooms.{Tells, given_by};
 
 use crate::fault::{Fault, Place};
+use crate::file_changes::changed;
 use crate::room::hand_out;
 use crate::taking::{left, taken, text_of};
 use csv_rows::CsvReader;
-use replica_changes::{Load, create, delete, file_schema, forget, import, read_csv};
+use replica_changes::{Load, create, file_schema, forget, read_csv};
 use script_lines::{Command, TableCommand, parse_line};
 use std::alloc::{AllocError, Global};
 use table_model::{BatchName, Counted, Number, Origin, Refusal, Schema};
@@ -44,21 +46,13 @@ fn created(alloc: Global, words: &[u8]) -> Result<Vec<u8>, Fault>
     }
 }
 
-/// The file without the rows at which a condition is true.
-fn deleted(alloc: Global, file: &[u8], condition: &str) -> Result<Vec<u8>, Fault>
-    ensures { Yields (given_by result) (delete_of condition.now file.now) }
-{
-    let mut writer = Counted::new(Vec::new(alloc));
-    let done = delete(alloc, &mut Counted::new(file), condition, &mut writer)?;
-    left(alloc, file, done.rows != 0, writer)
-}
-
-/// The same of a condition in bytes.
+/// The file without the rows at which a condition in bytes is true.
 fn deleted_where(alloc: Global, file: &[u8], condition: &[u8]) -> Result<Vec<u8>, Fault>
-    ensures { Asks (given_by result) condition.now (delete_of condition.now file.now) }
+    ensures { Asks (given_by result) condition.now (change_of (Delete condition.now) file.now) }
 {
     let text = text_of(condition)?;
-    deleted(alloc, file, text)
+    let delete = replica_changes::Command::Delete { condition: text };
+    changed(alloc, file, delete)
 }
 
 /// The file without the batches of which every row is deleted.
@@ -108,28 +102,6 @@ pub(crate) fn name_given(origin: u32, number: u32) -> Option<BatchName>
     })
 }
 
-/// The file with a load's batches.
-fn imported(
-    alloc: Global,
-    file: &[u8],
-    load: Load,
-    first: Option<BatchName>,
-    words: &[u64],
-) -> Result<Vec<u8>, Fault>
-    ensures { ImportsLoad (given_by result) load first words.now file.now }
-{
-    let mut writer = Counted::new(Vec::new(alloc));
-    let done = import(
-        alloc,
-        &mut Counted::new(file),
-        load,
-        first,
-        words,
-        &mut writer,
-    )?;
-    left(alloc, file, done.new != 0, writer)
-}
-
 /// Makes the file of an empty table: its name and, column by column, the column's name and its type, all with one space between.
 ///
 /// Refused is `BadSchema`.
@@ -159,7 +131,7 @@ pub extern "C" fn lanes_delete(
     length: &mut usize,
     place: &mut Place,
 ) -> u8
-    ensures { Tells (λ given. Asks given condition.now (delete_of condition.now file.now)) result room.old room.new length.new place.new }
+    ensures { Tells (λ given. Asks given condition.now (change_of (Delete condition.now) file.now)) result room.old room.new length.new place.new }
 {
     hand_out(deleted_where(alloc, file, condition), room, length, place)
 }
@@ -193,7 +165,12 @@ fn imported_text(
     ensures { Imports (given_by result) csv.now has_heading first words.now file.now }
 {
     let load = loaded_for(alloc, file, csv, has_heading)?;
-    imported(alloc, file, load, first, words)
+    let import = replica_changes::Command::Import {
+        load,
+        given: first,
+        words,
+    };
+    changed(alloc, file, import)
 }
 
 /// Imports rows of comma-separated values as batches of 65,536 rows, the last one shorter, under consecutive names: the first is

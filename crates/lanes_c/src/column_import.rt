@@ -9,8 +9,8 @@ use crate::changing::name_given;
 use crate::fault::{Fault, Place};
 use crate::handle::Table;
 use crate::input_columns::InputColumns;
-use crate::table_changes::{put_change, tell, with_load};
-use replica_changes::Load;
+use crate::table_changes::{put_change, tell, with_command};
+use replica_changes::{Command, Load};
 use replica_store::Store;
 use std::alloc::Global;
 use std::mem::replace;
@@ -44,7 +44,12 @@ fn with_columns(
     ensures { Yields (changed_by result) (with_columns rows values.now valid.now first words.now store.now.replica) }
 {
     let load = columns_loaded(alloc, store.schema(), rows, values, valid)?;
-    with_load(alloc, store, load, first, words)
+    let import = Command::Import {
+        load,
+        given: first,
+        words,
+    };
+    with_command(alloc, store, import)
 }
 
 /// Imports rows of columns into the table of a handle, as batches of 65,536 rows, the last one shorter, under names as of

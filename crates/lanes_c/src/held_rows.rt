@@ -8,7 +8,8 @@ ghost use Rattle.lanes_c.specs.declared.fault.Fault.TheVariants.{Refused};
 
 use crate::fault::{Fault, Place};
 use crate::handle::Table;
-use crate::table_changes::{copy_of, put_change, row_name, tell, without_range};
+use crate::table_changes::{copy_of, put_change, row_name, tell, with_command};
+use replica_changes::Command;
 use replica_store::Store;
 use std::alloc::Global;
 use std::mem::replace;
@@ -33,7 +34,7 @@ fn without_range_if(
 ) -> Result<Store, Fault>
     ensures { Yields (changed_by result) (without_range_if is_held first last store.now.replica) }
 {
-    let changed = without_range(alloc, store, first, last)?;
+    let changed = with_command(alloc, store, Command::DeleteRows { first, last })?;
     if is_held {
         return Ok(changed);
     }

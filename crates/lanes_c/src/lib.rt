@@ -13,6 +13,7 @@ mod coverage;
 mod delete_part;
 mod expecting;
 mod fault;
+mod file_changes;
 mod folder_plans;
 mod handle;
 mod held_rows;

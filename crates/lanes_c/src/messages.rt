@@ -5,11 +5,12 @@ ghost use Rattle.lanes_c.specs.Rooms.{Tells, given_by};
 ghost use Rattle.replica_reports.specs.Held.{summarizing};
 
 use crate::fault::{Fault, Place};
+use crate::file_changes::changed;
 use crate::opening::opened_file;
 use crate::room::hand_out;
-use crate::taking::{left, taken};
+use crate::taking::taken;
 use column_file::{read_offer, read_summary};
-use replica_changes::apply;
+use replica_changes::Command;
 use replica_reports::{OpenFile, offer, summary};
 use replica_store::Summary;
 use std::alloc::Global;
@@ -56,9 +57,7 @@ fn applied(alloc: Global, file: &[u8], offer: &[u8]) -> Result<Vec<u8>, Fault>
 {
     let offer = read_offer(alloc, &mut Counted::new(offer))?;
     let offers = vec![in alloc; offer]?;
-    let mut writer = Counted::new(Vec::new(alloc));
-    let done = apply(alloc, &mut Counted::new(file), offers, &mut writer)?;
-    left(alloc, file, done.is_changed, writer)
+    changed(alloc, file, Command::Apply { offers })
 }
 
 /// Gives the summary of what a file holds: the names of its batches. Refused is the file's first fault.

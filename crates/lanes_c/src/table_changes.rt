@@ -1,10 +1,11 @@
 //! The calls that change the table of a handle: an import, deletes, an offer, a forget.
 ghost use Rattle.std.specs.Prelude.{◌≡◌, Ok, Some};
 ghost use Rattle.table_model.specs.Outcome.{Gives};
+ghost use Rattle.replica_changes.specs.CommandForms.{Delete, DeleteRows, command_of};
 ghost use Rattle.lanes_c.specs.Calls.{Yields, Asks};
 ghost use Rattle.lanes_c.specs.Importing.{name_given};
 ghost use Rattle.lanes_c.specs.Opened.{IsToldAs};
-ghost use Rattle.lanes_c.specs.TableChanges.{ChangesOpen, ImportsText, IsShared, TellsChange, changed_by, row_name, shared_by, with_load, with_offer, without_dead, without_range, without_rows};
+ghost use Rattle.lanes_c.specs.TableChanges.{ChangesOpen, ImportsText, IsShared, TellsChange, changed_by, row_name, shared_by, with_command, with_offer, without_dead};
 
 use crate::changing::{loaded, name_given};
 use crate::fault::{Fault, Place};
@@ -13,12 +14,11 @@ use crate::shared::Shared;
 use crate::taking::text_of;
 use column_file::read_offer;
 use query_eval::HashKey;
-use replica_changes::{Load, apply_offers, import_load};
+use replica_changes::{Command, change_store};
 use replica_store::{Store, Summary};
 use std::alloc::Global;
 use std::boxed::Box;
 use std::mem::replace;
-use store_view::names_where;
 use table_model::{BatchName, Counted, Number, Origin, Refusal, RowName};
 
 /// A copy of a store.
@@ -30,36 +30,25 @@ pub(crate) fn copy_of(alloc: Global, store: &Store) -> Result<Store, Refusal>
     all.into_store(alloc, store.own())
 }
 
-/// What a store has without the rows at which a condition is true.
-fn without_rows(alloc: Global, store: &Store, condition: &str) -> Result<Store, Fault>
-    ensures { Yields (changed_by result) (without_rows condition.now store.now.replica) }
-{
-    let names = names_where(alloc, store, condition)?;
-    let mut changed = copy_of(alloc, store)?;
-    changed.delete_all(alloc, names.as_slice())?;
-    Ok(changed)
-}
-
-/// The same of a condition in bytes.
-fn without_rows_where(alloc: Global, store: &Store, condition: &[u8]) -> Result<Store, Fault>
-    ensures { Asks (changed_by result) condition.now (without_rows condition.now store.now.replica) }
-{
-    let text = text_of(condition)?;
-    without_rows(alloc, store, text)
-}
-
-/// What a store has without a range of rows of a batch.
-pub(crate) fn without_range(
+/// What a store has once a command was done on it.
+pub(crate) fn with_command(
     alloc: Global,
     store: &Store,
-    first: RowName,
-    last: u16,
+    command: Command<'_>,
 ) -> Result<Store, Fault>
-    ensures { Yields (changed_by result) (without_range first last store.now.replica) }
+    ensures { Yields (changed_by result) (with_command (command_of command.entry) store.now.replica) }
 {
-    let mut changed = copy_of(alloc, store)?;
-    changed.delete(alloc, first, last)?;
+    let copy = copy_of(alloc, store)?;
+    let (_answer, changed) = change_store(alloc, copy, command)?;
     Ok(changed)
+}
+
+/// What a store has without the rows at which a condition in bytes is true.
+fn without_rows_where(alloc: Global, store: &Store, condition: &[u8]) -> Result<Store, Fault>
+    ensures { Asks (changed_by result) condition.now (with_command (Delete condition.now) store.now.replica) }
+{
+    let text = text_of(condition)?;
+    with_command(alloc, store, Command::Delete { condition: text })
 }
 
 /// What a store has without the batches of which every row is deleted.
@@ -77,24 +66,7 @@ fn with_offer(alloc: Global, store: &Store, offer: &[u8]) -> Result<Store, Fault
 {
     let offer = read_offer(alloc, &mut Counted::new(offer))?;
     let offers = vec![in alloc; offer]?;
-    let mut changed = copy_of(alloc, store)?;
-    apply_offers(alloc, &mut changed, offers)?;
-    Ok(changed)
-}
-
-/// What a store has with the batches of a load, under a name that is given or drawn.
-pub(crate) fn with_load(
-    alloc: Global,
-    store: &Store,
-    load: Load,
-    first: Option<BatchName>,
-    words: &[u64],
-) -> Result<Store, Fault>
-    ensures { Yields (changed_by result) (with_load load first words.now store.now.replica) }
-{
-    let mut changed = copy_of(alloc, store)?;
-    import_load(alloc, &mut changed, load, first, words)?;
-    Ok(changed)
+    with_command(alloc, store, Command::Apply { offers })
 }
 
 /// What a store has with the rows of a text.
@@ -109,7 +81,12 @@ fn with_text(
     ensures { ImportsText (changed_by result) csv.now has_heading first words.now store.now.replica }
 {
     let load = loaded(alloc, store.schema(), csv, has_heading)?;
-    with_load(alloc, store, load, first, words)
+    let import = Command::Import {
+        load,
+        given: first,
+        words,
+    };
+    with_command(alloc, store, import)
 }
 
 /// The first share of what a change made, by the key of what it was made of.
@@ -192,7 +169,7 @@ pub extern "C" fn lanes_table_delete(
     condition: &[u8],
     place: &mut Place,
 ) -> u8
-    ensures { ChangesOpen (λ r given. Asks given condition.now (without_rows condition.now r)) result table.old table.new place.new }
+    ensures { ChangesOpen (λ r given. Asks given condition.now (with_command (Delete condition.now) r)) result table.old table.new place.new }
 {
     let Some(shared) = replace(table, Table::closed()).into_box(alloc) else {
         return tell(Fault::NotOpen, place);
@@ -226,12 +203,13 @@ pub extern "C" fn lanes_table_delete_rows(
     last: u16,
     place: &mut Place,
 ) -> u8
-    ensures { ChangesOpen (λ r given. Yields given (without_range (row_name origin number first) last r)) result table.old table.new place.new }
+    ensures { ChangesOpen (λ r given. Yields given (with_command (DeleteRows (row_name origin number first) last) r)) result table.old table.new place.new }
 {
     let Some(shared) = replace(table, Table::closed()).into_box(alloc) else {
         return tell(Fault::NotOpen, place);
     };
-    let changed = without_range(alloc, &shared.store, row_name(origin, number, first), last);
+    let first = row_name(origin, number, first);
+    let changed = with_command(alloc, &shared.store, Command::DeleteRows { first, last });
     put_change(alloc, table, shared, changed, place)
 }
 

@@ -9,6 +9,7 @@ pub mod FileMerges
 pub mod ForgetCounts
 pub mod ForgetFiles
 pub mod Imports
+pub mod JoinedChanges
 pub mod LoadedBatches
 pub mod OperationSets
 pub mod StoreCommands

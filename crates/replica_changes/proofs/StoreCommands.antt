@@ -11,20 +11,17 @@ use Rattle.table_model.specs.Name.{row_name_cmp, is_proper_name}
 use Rattle.table_model.specs.Reading.{◌>>=◌}
 use Rattle.table_model.specs.Formula.{Formula}
 use Rattle.table_model.specs.Meaning.{names_where, is_kept, at_row}
-use Rattle.table_model.specs.State.{State, Batch, Cells, live_rows, named_rows, union_of}
+use Rattle.table_model.specs.State.{State, Cells, live_rows, named_rows, union_of}
 use Rattle.table_model.specs.Table.{Table, same_table}
 use Rattle.table_model.specs.declared.names.BatchName.{BatchName}
 use Rattle.table_model.specs.declared.names.RowName.{RowName}
 use Rattle.table_model.specs.declared.refusal.Refusal.{Refusal}
 use Rattle.table_model.specs.declared.refusal.Refusal.TheVariants.{Memory, BadName, BadRange, SchemaDiffers, Conflict, Full}
-use Rattle.table_model.proofs.Joins.{same_maps}
 use Rattle.table_model.proofs.NameOrder.{row_names_total, exact_row_names}
-use Rattle.replica_store.specs.Exchange.{OfferForm, applied, offering}
-use Rattle.replica_store.specs.ExchangeLaws.{HasGrown}
-use Rattle.replica_store.specs.Replica.{Replica, SaysChange, with_deleted, with_join, deleted_names, names_fault, deleted_rows, delete_fault, rows_between, unless_fault, merged, merge_fault, conflict_or_full, conflict_with, entries_of, batch_limit}
+use Rattle.replica_store.specs.Exchange.{OfferForm}
+use Rattle.replica_store.specs.Replica.{Replica, with_deleted, with_join, deleted_names, names_fault, deleted_rows, delete_fault, rows_between, unless_fault, merged, merge_fault, conflict_or_full, conflict_with, entries_of, batch_limit}
 use Rattle.replica_store.proofs.Limits.{ok_unless}
 use Rattle.replica_store.proofs.Idle.{absorbs}
-use Rattle.replica_store.proofs.Growth.{grown_itself, grown_then, grown_merge}
 use Rattle.replica_store.proofs.MergeAnswers.{made_of, is_merge}
 use Rattle.replica_store.proofs.Merges.{union-same}
 use Rattle.replica_store.proofs.RowLists.{all_held}
@@ -110,12 +107,6 @@ deletes_ok view x text r new names slice u finds same counted e =
       ),
     )
 
--- a condition that was refused
-pub deletes_refused : {X : Type 0} (view : X → ℕ) (e : Refusal) (text : List ℕ) (r new : Replica) → (condition_names text r.schema r.state ≡ Err e) ⊎ (e ≡ Memory)
-    → Makes {X = X} view (λ (d : X). not (view d == 0)) r (Err e) new (deleting text r)
-deletes_refused view e text r new (inl refused) = inl (ap (λ (found : Result (List RowName) Refusal). found >>= λ (rows : List RowName). let made : Made ℕ = Ok (length rows, with_deleted r rows) in made) refused)
-deletes_refused view e text r new (inr lacks) = inr lacks
-
 -- a delete of rows that have proper names is refused for want of memory alone
 pub only_memory : (r : Replica) (names slice : List RowName) (e : Refusal) → All (λ (row : RowName). IsTrue (is_proper_name row.batch)) names → slice ≡ names
     → (deleted_names r slice ≡ Err e) ⊎ ((e ≡ Memory) × IsOk (deleted_names r slice)) → e ≡ Memory
@@ -149,14 +140,6 @@ acts_refused view changed r new e made (inl refused) = inl refused
 acts_refused view changed r new e made (inr lack) = inr lack.0
 
 -- ---- offers
-
-or_left : (a b : Bool) → (a || b) ≡ false → a ≡ false
-or_left true b e = cc
-or_left false b e = refl
-
-or_right : (a b : Bool) → (a || b) ≡ false → b ≡ false
-or_right true b e = cc
-or_right false b e = e
 
 deletions_same : (ours theirs : set.FinSet row_name_cmp) → set.is_subset theirs ours ≡ true → set.union ours theirs ≡ ours
 deletions_same ours theirs within =
@@ -198,65 +181,6 @@ merge_listed r other e (inr lack) = ap is_refusal_of_merge lack.0
 pub join_listed : (r other : Replica) (e : Refusal) → (merged r other ≡ Err e) ⊎ (e ≡ Memory) → IsTrue (is_refusal_of_merge e)
 join_listed r other e (inl refused) = merge_listed r other e (inl refused)
 join_listed r other e (inr lack) = ap is_refusal_of_merge lack
-
--- what both ways grow into each other is the same
-both_equal : (a b : Bool) → (IsTrue a → IsTrue b) → (IsTrue b → IsTrue a) → a ≡ b
-both_equal true b there back = sym (there refl)
-both_equal false true there back = back refl
-both_equal false false there back = refl
-
-found_both : (a b : Option Batch) → ((rows : Batch) → a ≡ Some rows → b ≡ Some rows) → ((rows : Batch) → b ≡ Some rows → a ≡ Some rows) → a ≡ b
-found_both (Some x) b there back = sym (there x refl)
-found_both None (Some y) there back = back y refl
-found_both None None there back = refl
-
-same_grown : (r s : Replica) → s.own ≡ r.own → HasGrown r s → HasGrown s r → s ≡ r
-same_grown r s own there back =
-    let batches = same_maps s.state.batches r.state.batches (λ q. found_both (map.get s.state.batches q) (map.get r.state.batches q) (back.batches q) (there.batches q)) in
-    let deleted = set.same_set row_names_total exact_row_names s.state.deleted r.state.deleted (λ q. both_equal (set.contains s.state.deleted q) (set.contains r.state.deleted q) (back.deletions q) (there.deletions q)) in
-    λ i. record { schema = there.schema i; own = own i; state = record { batches = batches i; deleted = deleted i } }
-
--- offers that were applied so far: the rest is applied to what they made, which has grown
-pub record AppliedSoFar (start now : Replica) (all left : List OfferForm) (is_changed : Bool) : Type 0 where
-  pub rest : applied_all start all ≡ applied_all now left
-  pub own : now.own ≡ start.own
-  pub grown : HasGrown start now
-  pub changed : SaysChange is_changed start now
-
-pub applied_none : (start : Replica) (all : List OfferForm) → AppliedSoFar start start all all false
-applied_none start all = record { rest = refl; own = refl; grown = grown_itself start; changed = (λ e. refl, λ e. refl) }
-
--- both of two steps say that nothing changed where nothing did
-says_both : (start now next : Replica) (was is : Bool) → now.own ≡ start.own → next.own ≡ now.own → HasGrown start now → HasGrown now next → SaysChange was start now → SaysChange is now next → SaysChange (was || is) start next
-says_both start now next was is own_now own_next to_now to_next first second = (
-  λ none. second.0 (or_right was is none) ∙ first.0 (or_left was is none),
-  λ stays.
-      let back : HasGrown now start = subst (HasGrown now) stays to_next in
-      let now_same : now ≡ start = same_grown start now own_now to_now back in
-      let was_none = first.1 now_same in
-      let is_none = second.1 (stays ∙ sym now_same) in
-      ap (λ (b : Bool). b || is) was_none ∙ is_none,
-)
-
-pub applied_next : (start now next : Replica) (all left : List OfferForm) (offer : OfferForm) (was is both : Bool) → AppliedSoFar start now all (offer ∷ left) was
-    → applied now offer ≡ Ok (tt, next) → SaysChange is now next → both ≡ (was || is) → AppliedSoFar start next all left both
-applied_next start now next all left offer was is both so made says joined =
-    let own : next.own ≡ now.own = ap (λ (r : Replica). r.own) (sym (is_merge now (offering now.own offer) next made).made) in
-    let grown : HasGrown now next = grown_merge now (offering now.own offer) next made in
-    record {
-      rest = so.rest ∙ ap (λ (x : Made (Unit {0})). x >>= λ (done : Unit {0} × Replica). applied_all done.1 left) made;
-      own = own ∙ so.own;
-      grown = grown_then start now next so.grown grown;
-      changed = subst (λ (b : Bool). SaysChange b start next) (sym joined) (says_both start now next was is so.own own so.grown grown so.changed says);
-    }
-
-pub applied_stops : (start now new : Replica) (all left : List OfferForm) (offer : OfferForm) (was : Bool) (e : Refusal) → AppliedSoFar start now all (offer ∷ left) was
-    → (applied now offer ≡ Err e) ⊎ ((e ≡ Memory) × IsOk (applied now offer)) → Makes {X = Bool} (λ is_changed. tt) (λ (is_changed : Bool). is_changed) start (Err e) new (applied_all start all)
-applied_stops start now new all left offer was e so (inl refused) = inl (so.rest ∙ ap (λ (x : Made (Unit {0})). x >>= λ (done : Unit {0} × Replica). applied_all done.1 left) refused)
-applied_stops start now new all left offer was e so (inr lack) = inr lack.0
-
-pub applied_whole : (start now : Replica) (all : List OfferForm) (is : Bool) → AppliedSoFar start now all [] is → Makes (λ is_changed. tt) (λ (is_changed : Bool). is_changed) start (Ok is) now (applied_all start all)
-applied_whole start now all is so = (so.rest, so.changed)
 
 -- what is told of a replica that was another one before
 abbrev told_of : Replica → Replica → Made (ℕ × ℕ × ℕ)

@@ -3,6 +3,7 @@
 
 mod applying;
 mod bringing;
+mod changing;
 mod command;
 mod csv_reading;
 mod deleting;
@@ -15,14 +16,15 @@ mod merging;
 mod naming;
 mod new_file;
 
-pub use applying::{Applied, apply, apply_offers};
+pub use applying::Applied;
 pub use bringing::bring;
+pub use changing::change_store;
 pub use command::{Answer, Command};
 pub use csv_reading::read_csv;
-pub use deleting::{Deleted, DeletedRows, delete};
+pub use deleting::{Deleted, DeletedRows};
 pub use file_writing::write_changed;
 pub use forgetting::{forget, forget_dead};
-pub use importing::{Imported, import, import_load};
+pub use importing::Imported;
 pub use laws::{drawn_names_are_free, dump_laws, file_laws, forget_file_laws};
 pub use load::Load;
 pub use merging::merge;

@@ -14,5 +14,5 @@ returns-in_err-load c =
 
 pub returns : goal.returns
 returns c =
-    text_imported (changed_by c.with_load.result) c.in_ok-load.load c.args.first c.args.words.now c.args.csv.now c.args.has_heading c.args.store.now.replica
-    (subst (λ (t : Schema). LoadsText t c.args.csv.now c.args.has_heading c.in_ok-load.load) c.schema.ensures c.in_ok-load.ensures.load) c.with_load.ensures
+    text_imported (changed_by c.with_command.result) c.in_ok-load.load c.args.first c.args.words.now c.args.csv.now c.args.has_heading c.args.store.now.replica
+    (subst (λ (t : Schema). LoadsText t c.args.csv.now c.args.has_heading c.in_ok-load.load) c.schema.ensures c.in_ok-load.ensures.load) c.with_command.ensures
