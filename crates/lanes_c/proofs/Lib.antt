@@ -8,7 +8,6 @@ pub mod ColumnGivings
 pub mod PartialAnswerGivings
 pub mod TableChanging
 pub mod TableReadings
-pub mod BetweenSteps
 pub mod CoverageGivings
 pub mod SpreadGivings
 pub mod HeldChanges

@@ -9,6 +9,7 @@ use Rattle.table_model.specs.Table.{ColumnShape, Table as Schema, type_text}
 use Rattle.table_model.specs.declared.names.RowName.{RowName}
 use Rattle.table_model.specs.declared.refusal.Refusal.{Refusal}
 use Rattle.table_model.specs.declared.refusal.Refusal.TheVariants.{Memory, NoSuchColumn, Syntax}
+use Rattle.live_columns.specs.Between.{rows_between}
 use Rattle.live_columns.specs.Chosen.{columns_in, rows_where}
 use Rattle.live_columns.specs.Choices.{ChoiceForm, choice_of}
 use Rattle.live_columns.specs.Columns.{null_count, numbers_of, stride_of, validities}
@@ -16,7 +17,6 @@ use Rattle.live_columns.specs.declared.choice.Choice.{Choice}
 use Rattle.live_columns.specs.declared.choice.Unchosen.{Unchosen}
 use Rattle.live_columns.specs.declared.choice.Unchosen.TheVariants as unchosen
 use Rattle.replica_store.specs.Replica.{Replica}
-use Rattle.lanes_c.specs.Between.{rows_between}
 use Rattle.lanes_c.specs.Calls.{Yields}
 use Rattle.lanes_c.specs.Faults.{nowhere, number_of_fault, place_of_fault, told_of_choice}
 use Rattle.lanes_c.specs.Opened.{IsNotOpen}

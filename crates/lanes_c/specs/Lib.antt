@@ -1,7 +1,6 @@
 pub mod AnswerCells
 pub mod AnswerColumns
 pub mod AnswerHandles
-pub mod Between
 pub mod Calls
 pub mod ColumnCalls
 pub mod Coverage

@@ -3,19 +3,18 @@ ghost use Rattle.std.specs.Prelude.{◌≡◌, ◌<◌, ◌≤◌, ◌*◌, ◌+
 ghost use Rattle.std.specs.List.{All};
 ghost use Rattle.table_model.specs.Group.{state_row_limit};
 ghost use Rattle.table_model.specs.Table.{type_text};
+ghost use Rattle.live_columns.specs.Between.{rows_between};
 ghost use Rattle.live_columns.specs.Chosen.{rows_where};
 ghost use Rattle.live_columns.specs.Columns.{stride_of};
-ghost use Rattle.lanes_c.specs.Between.{rows_between};
 ghost use Rattle.lanes_c.specs.Calls.{Yields};
 ghost use Rattle.lanes_c.specs.ColumnCalls.{ColumnRooms, ColumnsBetweenOpen, ColumnsOpen, IsPut, PutsColumns, ReadsChoice, SchemaOpen, column_words, columns_of, number_of_rows, place_of_rows, rows_told, schema_words};
 ghost use Rattle.lanes_c.specs.Rooms.{given_by};
 
-use crate::between::{BatchRange, rows_between};
 use crate::fault::{Fault, Place};
 use crate::handle::Table;
 use crate::room::hand_out;
 use crate::taking::text_of;
-use live_columns::{Choice, choose, stride_of, write_columns};
+use live_columns::{BatchRange, Choice, choose, rows_between, stride_of, write_columns};
 use query_eval::Columns;
 use replica_store::Store;
 use std::alloc::{AllocError, Global};

@@ -5,7 +5,6 @@
 mod answer_cells;
 mod answer_columns;
 mod answer_handle;
-mod between;
 mod changing;
 mod column_import;
 mod columns;

@@ -1,7 +1,7 @@
 -- A store is seen as its schema and its state.
 use Rattle.std.proofs.Common.{subst}
 use Rattle.store_view.specs.View.{ViewForm}
-use Rattle.lanes_c.specs.Between.{rows_between}
+use Rattle.live_columns.specs.Between.{rows_between}
 use Rattle.lanes_c.specs.ColumnCalls.{PutsColumns}
 use Rattle.lanes_c.proofs.columns.columns_between.Goals as goal
 

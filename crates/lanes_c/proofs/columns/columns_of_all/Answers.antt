@@ -1,7 +1,7 @@
 -- All batches have all live rows.
 use Rattle.std.proofs.Common.{subst}
+use Rattle.live_columns.proofs.BetweenSteps.{between-whole}
 use Rattle.lanes_c.specs.ColumnCalls.{PutsColumns, RowsWhere}
-use Rattle.lanes_c.proofs.BetweenSteps.{between-whole}
 use Rattle.lanes_c.proofs.columns.columns_of_all.Goals as goal
 
 pub returns : goal.returns

@@ -3,7 +3,7 @@ use Rattle.std.specs.Prelude.{◌≡◌, ℕ, List, MatchOption}
 use Rattle.std.proofs.Common.{Some, Err, Option, sym, ap, subst, ◌∙◌}
 use Rattle.replica_store.specs.Replica.{Replica}
 use Rattle.replica_store.specs.Segments.{StoreForm}
-use Rattle.lanes_c.specs.Between.{rows_between}
+use Rattle.live_columns.specs.Between.{rows_between}
 use Rattle.lanes_c.specs.ColumnCalls.{AsksTexts, ColumnRooms, IsGiven, TellsColumns, columns_between}
 use Rattle.lanes_c.specs.declared.fault.Fault.TheVariants.{NotOpen}
 use Rattle.lanes_c.specs.declared.fault.Place.{Place}

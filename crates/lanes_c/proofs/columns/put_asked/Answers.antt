@@ -1,7 +1,7 @@
 -- What is asked for is refused, or written, or memory lacks.
 use Rattle.std.proofs.Common.{◌≡◌, Ok, Err, subst}
 use Rattle.table_model.specs.Table.{Table as Schema}
-use Rattle.lanes_c.specs.Between.{rows_between}
+use Rattle.live_columns.specs.Between.{rows_between}
 use Rattle.lanes_c.specs.ColumnCalls.{ColumnRooms, ReadsChoice}
 use Rattle.lanes_c.proofs.ColumnGivings.{puts-columns, puts-nothing, puts-refused}
 use Rattle.lanes_c.proofs.columns.put_asked.Goals as goal

@@ -1,6 +1,6 @@
 -- All columns fit, and are written.
 use Rattle.std.proofs.Common.{length, refl}
-use Rattle.lanes_c.specs.Between.{rows_between}
+use Rattle.live_columns.specs.Between.{rows_between}
 use Rattle.lanes_c.proofs.ColumnGivings.{put-done}
 use Rattle.lanes_c.proofs.columns.put_columns.Goals as goal
 
