@@ -766,7 +766,8 @@ size_t lanes_refusal(uint8_t number, uint8_t *out, size_t room);
 size_t lanes_sentence(uint8_t number, const lanes_place *place, uint8_t *out, size_t room);
 
 /* What the text is that lanes_explain is given: nothing; the query or the condition; the names of columns; the rows as comma-separated values;
- * the words of a table that is to be made; the file or the message, of which the first 16 bytes are enough. */
+ * the words of a table that is to be made, or that has come where another table is expected; the file or the message, of which the first
+ * 16 bytes are enough. */
 enum {
     LANES_OF_NOTHING = 0,
     LANES_OF_QUERY = 1,
@@ -793,8 +794,10 @@ typedef struct lanes_refused {
  *
  * `text` is what the refused call was given, as refused->given says. `table` are the words of the table, as lanes_schema gives them, or no
  * bytes if it isn't known. Of rows `null_word` is the word that is a null in addition to the usual ones, and `columns` says what the fields are,
- * as the program's --columns; each may be of no bytes. The rows are read once more, up to their first fault. If the text does not have the
- * fault that the number and the place name, the sentence is that of lanes_sentence. */
+ * as the program's --columns; each may be of no bytes. The rows are read once more, up to their first fault. Of LANES_SCHEMA_DIFFERS, with
+ * LANES_OF_WORDS, `text` are the words of the table that came, `table` those of the one that is expected, and `columns` says what holds that
+ * one: the sentence names both tables. If the text does not have the fault that the number and the place name, the sentence is that of
+ * lanes_sentence. */
 size_t lanes_explain(const lanes_refused *refused, const uint8_t *text, size_t text_length, const uint8_t *table, size_t table_length,
                      const uint8_t *null_word, size_t null_word_length, const uint8_t *columns, size_t columns_length, uint8_t *out, size_t room);
 

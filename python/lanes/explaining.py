@@ -3,7 +3,7 @@
 from __future__ import annotations
 
 import contextlib
-from typing import TYPE_CHECKING, Iterator
+from typing import TYPE_CHECKING, Callable, Iterator
 
 from . import calls
 from .errors import Refused
@@ -35,6 +35,17 @@ def of_input(data: calls.Input) -> Iterator[None]:
         yield
     except Refused as refused:
         raise calls.explained(refused, calls.Given(calls.INPUT, data)) from None
+
+
+@contextlib.contextmanager
+def of_tables(found: Callable[[], bytes], wanted: Callable[[], bytes]) -> Iterator[None]:
+    """A call that joins what two inputs have: if they are of two tables, the sentence names both, by the words of each."""
+    try:
+        yield
+    except Refused as refused:
+        if refused.name != "SchemaDiffers":
+            raise
+        raise calls.explained(refused, calls.Given(calls.WORDS, found()), wanted()) from None
 
 
 def judged(argument: str, text: bytes, table: Table) -> contextlib.AbstractContextManager[None]:

@@ -12,7 +12,7 @@ from __future__ import annotations
 import ctypes
 from typing import Dict, Iterable, Optional, Union
 
-from . import arguments, calls
+from . import arguments, calls, explaining
 from .answer import Answer
 from .batch_name import BatchName
 from .errors import NotApart, Refused
@@ -128,7 +128,12 @@ def _of_summary(refusal: Refused, given: Partial, expected: list[bytes]) -> Refu
         at = next((at for at, summary in enumerate(expected) if Schema.of(summary)[:2] != Schema.of(given)[:2]), None)
     elif second:
         at, second = second - 1, 0
-    return refusal if at is None else calls.refused(refusal.number, first, second).said_of(f"expect[{at}]")
+    if at is None:
+        return refusal
+    said = calls.refused(refusal.number, first, second)
+    if refusal.number == _SCHEMA_DIFFERS:
+        said = calls.explained(said, calls.Given(calls.WORDS, Schema.of(expected[at]).words), Schema.of(given).words)
+    return said.said_of(f"expect[{at}]")
 
 
 def check_apart(tables: Iterable[Table]) -> None:
@@ -146,7 +151,8 @@ def check_apart(tables: Iterable[Table]) -> None:
 def _joined(one: bytes, other: bytes) -> bytes:
     """The partial answer of two."""
     try:
-        return calls.given(calls.COMBINE, len(one) + len(other) + _ROOM, one, other)
+        with explaining.of_tables(lambda: Schema.of(other).words, lambda: Schema.of(one).words):
+            return calls.given(calls.COMBINE, len(one) + len(other) + _ROOM, one, other)
     except Refused as refused:
         if refused.number == _NOT_APART:
             raise NotApart(refused.sentence, BatchName(*refused.place)) from None

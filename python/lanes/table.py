@@ -80,6 +80,11 @@ class Schema(NamedTuple):
             columns[column] = kind
         return cls(name, columns, file[:at])
 
+    @property
+    def words(self) -> bytes:
+        """The words of the table: its name, and column by column the column's name and its type."""
+        return " ".join([self.name, *(word for pair in self.columns.items() for word in pair)]).encode()
+
 
 def _word(file: bytes, at: int) -> tuple[str, int]:
     """The name at a place of a file, and the place after it."""
@@ -558,7 +563,7 @@ class Table:
             Refused: a fault of the summary or of the file, or `SchemaDiffers`.
         """
         held, given = self._file, arguments.bytes_of("summary", summary)
-        with explaining.of_input(given):
+        with explaining.of_input(given), explaining.of_tables(lambda: Schema.of(given).words, self._words):
             return calls.given(calls.OFFER, self._length() + _ROOM, held, given)
 
     def apply(self: _Self, offer: _Bytes) -> _Self:
@@ -598,7 +603,7 @@ class Table:
 
     def _applied(self: _Self, offer: calls.Input) -> _Self:
         """The table with what an offer brings."""
-        with explaining.of_input(offer):
+        with explaining.of_input(offer), explaining.of_tables(lambda: _words_of(offer), self._words):
             return self._made(calls.made(calls.APPLY, self._length() + calls.length_of(offer) + _ROOM, self._file, offer))
 
     def _asked(self) -> calls.Opened:
@@ -618,11 +623,8 @@ class Table:
         return schema
 
     def _words(self) -> bytes:
-        """The words of the table: its name, and column by column the column's name and its type."""
-        words = [self.name]
-        for pair in self.columns.items():
-            words += pair
-        return " ".join(words).encode()
+        """The words of the table."""
+        return self._schema().words
 
     def _front(self) -> bytes:
         """The front of the table's files, up to the count of batches."""
@@ -696,7 +698,13 @@ def _judged(argument: str, word: str) -> str:
 
 def _joined(one: calls.Input, other: calls.Input) -> calls.Input:
     """The file of what two hold."""
-    return calls.made(calls.MERGE, calls.length_of(one) + calls.length_of(other) + _ROOM, one, other)
+    with explaining.of_tables(lambda: _words_of(other), lambda: _words_of(one)):
+        return calls.made(calls.MERGE, calls.length_of(one) + calls.length_of(other) + _ROOM, one, other)
+
+
+def _words_of(file: calls.Input) -> bytes:
+    """The words of the table of a file or an offer."""
+    return Schema.of(bytes(calls.view_of(file)[:_FRONT])).words
 
 
 def _ordinal(name: str, given: object) -> int:

@@ -287,6 +287,23 @@ class Changes(unittest.TestCase):
             counts().merge(Table.create("COUNTS", {"SITE": "INTEGER", "HITS": "INTEGER"}))
         self.assertEqual(caught.exception.name, "SchemaDiffers")
 
+    def test_the_sentence_of_other_tables_names_both(self) -> None:
+        wanted = Table.create("T", {"A": "SMALLINT"})
+        found = Table.create("U", {"A": "SMALLINT", "B": "BIGINT"})
+        sentence = "this holds the table U (A SMALLINT, B BIGINT), but the other one holds T (A SMALLINT)"
+        for call in (
+            lambda: wanted.merge(found),
+            lambda: wanted.merge(wanted, wanted, found),
+            lambda: wanted.apply(found.to_bytes()),
+            lambda: wanted.apply(found.offer(Table.create("U", {"A": "SMALLINT", "B": "BIGINT"}).summary())),
+            lambda: wanted.offer(found.summary()),
+            lambda: lanes.combine([wanted.partial("SELECT COUNT(*) FROM T"), found.partial("SELECT COUNT(*) FROM U")]),
+            lambda: lanes.finish(wanted.partial("SELECT COUNT(*) FROM T"), expect=[found.summary()]),
+        ):
+            with self.assertRaises(Refused) as caught:
+                call()
+            self.assertEqual((caught.exception.name, caught.exception.sentence), ("SchemaDiffers", sentence))
+
 
 class Messages(unittest.TestCase):
     def test_a_pull_brings_what_is_lacked(self) -> None:

@@ -21,6 +21,9 @@ const LIMIT: usize = 1024;
 /// What comes after a sentence that is cut.
 const CUT: &[u8] = b"...";
 
+/// What an input is called that has no name.
+const OTHER: &str = "the other one";
+
 /// A refusal, and what the text is that comes with it.
 #[repr(C)]
 #[derive(Clone, Copy, Debug)]
@@ -52,7 +55,7 @@ enum Given {
     Names,
     /// Comma-separated values.
     Rows,
-    /// The words of a table that is to be made.
+    /// The words of a table that is to be made, or that another table is expected in its place.
     Table,
     /// A file or a message, or its first bytes.
     Input,
@@ -183,6 +186,27 @@ fn said_on_table(
     }
 }
 
+/// The sentence of a table of these words where another one is wanted, which the input of a name holds.
+fn said_on_tables(
+    alloc: Global,
+    words: &[u8],
+    wanted: &Schema,
+    of: &[u8],
+) -> Result<String, AllocError> {
+    let refusal = CommandRefusal::from(Refusal::SchemaDiffers);
+    let of = match str::from_utf8(of) {
+        Ok("") | Err(_) => OTHER,
+        Ok(of) => of,
+    };
+    match TableWords::read(alloc, words).and_then(|read| read.schema(alloc)) {
+        Some(found) => {
+            let found = &found;
+            said(alloc, refusal, Knowledge::Tables { found, wanted, of })
+        }
+        None => said(alloc, refusal, Knowledge::Nothing),
+    }
+}
+
 /// The sentence of a refusal of a query, of a condition, or of names of columns.
 fn said_on_text<'a>(
     alloc: Global,
@@ -269,6 +293,9 @@ fn said_of(
         }
         (CommandRefusal::Named(Refusal::BadSchema), _) if given == Given::Table => {
             said_on_table(alloc, refusal, text)
+        }
+        (CommandRefusal::Named(Refusal::SchemaDiffers), Some(wanted)) if given == Given::Table => {
+            said_on_tables(alloc, text, wanted, columns)
         }
         (CommandRefusal::BadCsv { line, column }, Some(schema)) if given == Given::Rows => {
             let rows = RefusedRows {
