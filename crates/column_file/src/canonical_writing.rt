@@ -157,7 +157,7 @@ pub fn export_bytes(alloc: Global, store: &Store) -> Result<Vec<u8>, AllocError>
     ensures file { IfOk result (λ _. HasFile store.now.replica.schema store.now.replica.state) }
 
     // The bytes open to the store's schema and state.
-    ensures opens { IfOk result (λ file. OpensTo file.items store.now.replica.schema store.now.replica.state) }
+    ensures opens { IfOk result (λ _. OpensTo (canonical_file store.now.replica.schema store.now.replica.state) store.now.replica.schema store.now.replica.state) }
 {
     let mut writer = Counted::new(Vec::new(alloc));
     match export(alloc, store, &mut writer) {
