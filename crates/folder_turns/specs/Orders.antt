@@ -4,12 +4,13 @@ use Rattle.std.specs.String.{string_bytes}
 use Rattle.std.specs.Global.{Global, Vec}
 use Rattle.std.specs.declared.string.String.{String}
 use Rattle.folder_model.specs.Call.{Call, can_settle}
-use Rattle.folder_model.specs.Parts.{Parts, IsNoPart}
+use Rattle.folder_model.specs.Parts.{Parts}
 use Rattle.folder_model.specs.Turn.{Gave, IsStored, listing_of}
 use Rattle.folder_model.specs.Disk.{Among}
 use Rattle.folder_protocol.specs.Causes.{Fails, HasCall, Lacks, LookCause}
 use Rattle.folder_protocol.specs.Goes.{AreJoined, AreRemoved}
 use Rattle.folder_protocol.specs.Keeping.{AreKept}
+use Rattle.folder_protocol.specs.Premises.{MayPut, MayRemove}
 use Rattle.folder_protocol.specs.Linking.{LinksOnly, LinksNone, WasSo, Watches, Each, One, HasEach}
 use Rattle.folder_protocol.specs.declared.putting.Outcome.{Outcome}
 use Rattle.folder_protocol.specs.declared.putting.Outcome.TheVariants.{OnDisk}
@@ -33,13 +34,13 @@ matter_of order =
 
 -- what is asked of a task's matter after some calls
 abbrev pub Suits : Task → Matter → Parts → List Call → Type 0
-Suits tasks.Put m parts before = (m.name ≡ parts.name_of m.bytes) × IsNoPart parts m.temporary
+Suits tasks.Put m parts before = MayPut parts m.temporary m.name m.bytes
 Suits tasks.Keep m parts before = m.name ≡ parts.name_of m.bytes
-Suits tasks.Replace m parts before = (m.name ≡ parts.name_of m.bytes) × IsNoPart parts m.temporary × AreJoined parts m.bytes m.names before
-Suits tasks.Remove m parts before = (m.name ≡ parts.name_of m.bytes) × AreJoined parts m.bytes m.names before
+Suits tasks.Replace m parts before = MayPut parts m.temporary m.name m.bytes × AreJoined parts m.bytes m.names before
+Suits tasks.Remove m parts before = MayRemove parts m.name m.bytes m.names before
 Suits tasks.List m parts before = Unit {0}
 Suits tasks.KeepAll m parts before = Unit {0}
-Suits tasks.PutJudged m parts before = (m.name ≡ parts.name_of m.bytes) × IsNoPart parts m.temporary
+Suits tasks.PutJudged m parts before = MayPut parts m.temporary m.name m.bytes
 
 -- When the calls of a task are in turn after others: no sync of the folder has failed before.
 abbrev pub MayTake : Task → Matter → Parts → List Call → Type 0

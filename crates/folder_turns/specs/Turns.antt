@@ -6,10 +6,9 @@ use Rattle.std.specs.declared.io.Error.{Error}
 use Rattle.folder_model.specs.Call.{Call, can_settle}
 use Rattle.folder_model.specs.Parts.{Parts}
 use Rattle.folder_model.specs.Turn.{InTurn, AllInTurn}
-use Rattle.folder_turns.specs.Asking.{RunSays}
+use Rattle.folder_turns.specs.Asking.{HasRunAstray}
 use Rattle.folder_turns.specs.Calls.{call_asked, calls_after}
 use Rattle.folder_turns.specs.Coding.{coded_call}
-use Rattle.folder_turns.specs.Straying.{HasStrayed}
 use Rattle.folder_turns.specs.Orders.{Matter, MayTake, EndSays, matter_of}
 use Rattle.folder_turns.specs.declared.order.End.{End}
 use Rattle.folder_turns.specs.declared.order.Task.{Task}
@@ -58,8 +57,7 @@ EndsSaying before state end = (parts : Parts) → MayTake state.task state.matte
 abbrev pub IsAstray : List Call → State → Type 0
 IsAstray before state =
     can_settle before ≡ true
-    → HasStrayed {T = Result End Error} (RunSays (λ parts. MayTake state.task state.matter parts before) (λ end parts calls. EndSays state.task state.matter end parts before calls) before)
-    state.matter.bytes before (state.calls ++ before)
+    → HasRunAstray {T = Result End Error} (MayTake state.task state.matter) (EndSays state.task state.matter) state.matter.bytes before (state.calls ++ before)
 
 -- Another call is asked for, or none; the rest is as it was.
 abbrev pub IsSame : State → State → Type 0

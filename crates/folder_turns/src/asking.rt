@@ -1,13 +1,12 @@
 //! The next call that is asked for.
-ghost use Rattle.std.specs.Prelude.{◌≡◌, ◌++◌, List, true, IfOk};
+ghost use Rattle.std.specs.Prelude.{◌≡◌, List, true, IfOk};
 ghost use Rattle.folder_model.specs.Call.{Call, can_settle};
 ghost use Rattle.folder_model.specs.Parts.{Parts};
 ghost use Rattle.folder_model.specs.Turn.{InTurn, AllInTurn};
-ghost use Rattle.folder_turns.specs.Asking.{AsksAfter, GoesOnWhatever, RunSays};
-ghost use Rattle.folder_turns.specs.Calls.{call_asked, answered, calls_after};
+ghost use Rattle.folder_turns.specs.Asking.{AsksAfter, GoesOnWhatever, IsInTurnWhatever, HasRunAstray};
+ghost use Rattle.folder_turns.specs.Calls.{call_asked, calls_after};
 ghost use Rattle.folder_turns.specs.Steps.{OnAsks, OnEnds};
-ghost use Rattle.folder_turns.specs.Straying.{HasStrayed, IfStrayed};
-ghost use Rattle.folder_turns.specs.declared.request.Answer.{Answer};
+ghost use Rattle.folder_turns.specs.Straying.{IfStrayed};
 
 use crate::program::Program;
 use crate::replay::{Fault, Replay};
@@ -33,7 +32,7 @@ pub fn next<P: Program>(
     // What it has come to says of the calls told what the program says.
     ensures ends { IfOk result (λ step. OnEnds step (λ outcome. (parts : Parts) → can_settle before ≡ true → P.may_run program.now parts before → P.says program.now outcome parts before (calls_after whole.now told.now before))) }
     // It strays only if there is such a run: it ended before it had made all calls that were told, or it made another one.
-    ensures strays { can_settle before ≡ true → IfStrayed result (HasStrayed (RunSays (λ parts. P.may_run program.now parts before) (λ outcome parts calls. P.says program.now outcome parts before calls) before) whole.now before (calls_after whole.now told.now before)) }
+    ensures strays { can_settle before ≡ true → IfStrayed result (HasRunAstray (P.may_run program.now) (P.says program.now) whole.now before (calls_after whole.now told.now before)) }
 {
     run::<P, Brand>(alloc, program, whole, told)
 }
@@ -49,9 +48,9 @@ fn run<P: Program, S: Script>(
     requires told { calls_after whole.now told.now S.before ≡ S.calls }
     requires settles { can_settle S.before ≡ true }
     ensures in_turn { IfOk result (λ step. OnAsks step (λ request. (parts : Parts) → AllInTurn parts S.before → P.may_run program.now parts S.before → InTurn parts S.calls (call_asked S.whole request))) }
-    ensures whatever { IfOk result (λ step. OnAsks step (λ request. (parts : Parts) → can_settle S.calls ≡ true → AllInTurn parts S.before → P.may_run program.now parts S.before → (answer : Answer) → AllInTurn parts (answered (call_asked S.whole request) answer ++ S.calls))) }
+    ensures whatever { IfOk result (λ step. OnAsks step (IsInTurnWhatever (λ parts. P.may_run program.now parts S.before) S.whole S.before S.calls)) }
     ensures ends { IfOk result (λ step. OnEnds step (λ outcome. (parts : Parts) → P.may_run program.now parts S.before → P.says program.now outcome parts S.before S.calls)) }
-    ensures strays { IfStrayed result (HasStrayed (RunSays (λ parts. P.may_run program.now parts S.before) (λ outcome parts calls. P.says program.now outcome parts S.before calls) S.before) S.whole S.before S.calls) }
+    ensures strays { IfStrayed result (HasRunAstray (P.may_run program.now) (P.says program.now) S.whole S.before S.calls) }
 {
     let mut folder = Replay::<S>::new(alloc, whole, told);
     let outcome = program.run(alloc, &mut folder);

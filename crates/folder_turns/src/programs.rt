@@ -1,9 +1,9 @@
 //! The functions of the protocol, as programs.
 ghost use Rattle.std.specs.Prelude.{◌≡◌, map, IfOk, IfSome};
 ghost use Rattle.std.specs.String.{string_bytes};
-ghost use Rattle.folder_model.specs.Parts.{IsNoPart};
 ghost use Rattle.folder_model.specs.Turn.{IsStored};
 ghost use Rattle.folder_protocol.specs.Goes.{AreJoined};
+ghost use Rattle.folder_protocol.specs.Premises.{MayPut, MayRemove};
 ghost use Rattle.folder_protocol.specs.Reads.{HasFound};
 ghost use Rattle.folder_protocol.specs.declared.putting.Outcome.TheVariants.{OnDisk};
 
@@ -22,7 +22,7 @@ pub struct Putting<'b> {
 impl<'b> Program for Putting<'b> {
     type Outcome = io::Result<folder_protocol::Outcome>;
 
-    ghost may_run = { λ p parts before. (p.name.now ≡ parts.name_of p.bytes.now) × IsNoPart parts p.temporary.now };
+    ghost may_run = { λ p parts before. MayPut parts p.temporary.now p.name.now p.bytes.now };
 
     ghost says = { λ p result parts before calls. IfOk result (λ how. how ≡ OnDisk → IsStored parts p.bytes.now calls) };
 
@@ -68,7 +68,7 @@ pub struct Replacing<'b> {
 impl<'b> Program for Replacing<'b> {
     type Outcome = io::Result<Option<folder_protocol::Outcome>>;
 
-    ghost may_run = { λ p parts before. (p.name.now ≡ parts.name_of p.bytes.now) × IsNoPart parts p.temporary.now × AreJoined parts p.bytes.now (map string_bytes p.joined.now) before };
+    ghost may_run = { λ p parts before. MayPut parts p.temporary.now p.name.now p.bytes.now × AreJoined parts p.bytes.now (map string_bytes p.joined.now) before };
 
     ghost says = { λ p result parts before calls. Unit {0} };
 
@@ -98,7 +98,7 @@ pub struct Removing<'b> {
 impl<'b> Program for Removing<'b> {
     type Outcome = io::Result<folder_protocol::Outcome>;
 
-    ghost may_run = { λ p parts before. (p.name.now ≡ parts.name_of p.bytes.now) × AreJoined parts p.bytes.now (map string_bytes p.joined.now) before };
+    ghost may_run = { λ p parts before. MayRemove parts p.name.now p.bytes.now (map string_bytes p.joined.now) before };
 
     ghost says = { λ p result parts before calls. Unit {0} };
 

@@ -77,7 +77,7 @@ are_read whole files before (first, others, is, made) read = record {
 -- what covers them may come in their place
 may_replace : (temporary bytes : List ℕ) (names : List (List ℕ)) (before : List Call) → can_settle before ≡ true → IsNoPart folder_parts temporary → AreCoveredBy [] names bytes before
     → MayTake Replace (matter_replacing temporary names bytes) folder_parts before
-may_replace temporary bytes names before clean free covered = (clean, (refl, free, are_joined [] names bytes (part_name bytes) _ before refl refl covered))
+may_replace temporary bytes names before clean free covered = (clean, ((refl, free), are_joined [] names bytes (part_name bytes) _ before refl refl covered))
 
 -- a pack may be followed
 pub packs : (whole : Replica) (files : List (List ℕ)) (temporary : List ℕ) → IsJoinOf whole files → held_in (file_of whole) ≡ Ok (as_held whole)

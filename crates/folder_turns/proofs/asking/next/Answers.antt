@@ -2,10 +2,9 @@
 use Rattle.std.proofs.Common.{◌≡◌, ◌++◌, refl, true, subst, List}
 use Rattle.folder_model.specs.Call.{Call, can_settle}
 use Rattle.folder_model.specs.Turn.{InTurn, AllInTurn}
-use Rattle.folder_model.specs.Parts.{Parts}
-use Rattle.folder_protocol.specs.Goes.{GoesInTurn}
+use Rattle.folder_turns.specs.Asking.{HasRunAstray}
 use Rattle.folder_turns.specs.Calls.{call_asked, answered, calls_after}
-use Rattle.folder_turns.specs.Straying.{HasStrayed, IfStrayed}
+use Rattle.folder_turns.specs.Straying.{IfStrayed}
 use Rattle.folder_turns.proofs.Runs.{told_in_turn, can_first, started_can, started_is}
 use Rattle.folder_turns.proofs.Steps.{asks_more, ends_more}
 use Rattle.folder_turns.proofs.asking.next.Goals as goal
@@ -40,6 +39,5 @@ returns-clause-ends g c = ends_more c.run.result _ _ c.run.ensures.ends (λ end 
 
 pub returns-clause-strays : goal.returns-clause-strays
 returns-clause-strays g c = λ can.
-    subst (λ (b : List Call). IfStrayed c.run.result (HasStrayed (λ outcome calls. (parts : Parts) → g.P.Program.may_run c.args.program.now parts b → GoesInTurn parts b calls × g.P.Program.says c.args.program.now outcome parts b calls)
-    c.args.whole.now b (calls_after c.args.whole.now c.args.told.now b)))
+    subst (λ (b : List Call). IfStrayed c.run.result (HasRunAstray (g.P.Program.may_run c.args.program.now) (g.P.Program.says c.args.program.now) c.args.whole.now b (calls_after c.args.whole.now c.args.told.now b)))
     (started_is g.before can) c.run.ensures.strays

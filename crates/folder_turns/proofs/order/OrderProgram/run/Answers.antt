@@ -27,7 +27,7 @@ returns-in-Replace-clause-said g c = λ parts.
     let m : Matter = record { temporary = c.as_str-temporary.result.now; name = c.as_str-name.result.now; bytes = c.as_slice-bytes.result.now; names = map string_bytes c.as_slice-names.result.now } in
     of_task (matter_of c.args.self.now) parts (g.F.Folder.history c.args.folder.now) (g.F.Folder.history c.replace.new.folder) c.args.self.now.task tasks.Replace c.replaced.result _ m c.in-Replace.is c.replaced.ensures
     (same_matter (matter_of c.args.self.now) m.temporary m.name m.bytes m.names c.as_str-temporary.ensures.value c.as_str-name.ensures.value c.as_slice-bytes.ensures.value (ap (map string_bytes) c.as_slice-names.ensures.value))
-    (λ may. replaced_says m parts (g.F.Folder.history c.args.folder.now) (g.F.Folder.history c.replace.new.folder) c.replace.result c.replace.ensures.gone (c.replace.ensures.stored parts may.1.0) c.replace.ensures.cause c.replace.ensures.overtaken c.replace.ensures.fails c.replace.ensures.links)
+    (λ may. replaced_says m parts (g.F.Folder.history c.args.folder.now) (g.F.Folder.history c.replace.new.folder) c.replace.result c.replace.ensures.gone (c.replace.ensures.stored parts may.1.0.0) c.replace.ensures.cause c.replace.ensures.overtaken c.replace.ensures.fails c.replace.ensures.links)
 
 pub returns-in-Remove-clause-said : goal.returns-in-Remove-clause-said
 returns-in-Remove-clause-said g c = λ parts.
@@ -56,4 +56,4 @@ returns-in-PutJudged-clause-said g c = λ parts.
     let m : Matter = record { temporary = c.as_str-temporary.result.now; name = c.as_str-name.result.now; bytes = c.as_slice-bytes.result.now; names = map string_bytes c.as_slice-names.result.now } in
     of_task (matter_of c.args.self.now) parts (g.F.Folder.history c.args.folder.now) (g.F.Folder.history c.put_judged.new.folder) c.args.self.now.task tasks.PutJudged c.judged.result _ m c.in-PutJudged.is c.judged.ensures
     (same_matter (matter_of c.args.self.now) m.temporary m.name m.bytes m.names c.as_str-temporary.ensures.value c.as_str-name.ensures.value c.as_slice-bytes.ensures.value (ap (map string_bytes) c.as_slice-names.ensures.value))
-    (λ may. judged_says m parts (g.F.Folder.history c.args.folder.now) (g.F.Folder.history c.put_judged.new.folder) c.put_judged.result (c.put_judged.ensures.stored parts may.1.0 may.1.1) c.put_judged.ensures.watched c.put_judged.ensures.cause c.put_judged.ensures.wanted c.put_judged.ensures.fails c.put_judged.ensures.links)
+    (λ may. judged_says m parts (g.F.Folder.history c.args.folder.now) (g.F.Folder.history c.put_judged.new.folder) c.put_judged.result (c.put_judged.ensures.stored parts may.1) c.put_judged.ensures.watched c.put_judged.ensures.cause c.put_judged.ensures.wanted c.put_judged.ensures.fails c.put_judged.ensures.links)

@@ -2,12 +2,10 @@
 use Rattle.std.proofs.Common.{◌≡◌, ℕ, true, List, Result}
 use Rattle.std.specs.declared.io.Error.{Error}
 use Rattle.folder_model.specs.Call.{Call, can_settle}
-use Rattle.folder_model.specs.Parts.{Parts}
 use Rattle.folder_model.specs.Turn.{InTurn}
 use Rattle.folder_turns.specs.Calls.{call_asked}
-use Rattle.folder_protocol.specs.Goes.{GoesInTurn}
 use Rattle.folder_turns.specs.Orders.{EndSays, MayTake, matter_of}
-use Rattle.folder_turns.specs.Straying.{HasStrayed}
+use Rattle.folder_turns.specs.Asking.{HasRunAstray}
 use Rattle.folder_turns.specs.declared.order.End.{End}
 use Rattle.folder_turns.proofs.Runs.{holds_after}
 use Rattle.folder_turns.proofs.Steps.{asks_more, ends_more}
@@ -27,7 +25,6 @@ returns-clause-ends g c = let turn = c.args.self.now in ends_more c.next.result 
 pub returns-clause-strays : goal.returns-clause-strays
 returns-clause-strays g c = let turn = c.args.self.now in
     strays_so c.next.result (can_settle g.before ≡ true) _ _
-    (holds_after (λ (whole : List ℕ) (calls : List Call). HasStrayed {T = Result End Error} (λ end others. (parts : Parts) → MayTake turn.order.task (matter_of turn.order) parts g.before
-    → GoesInTurn parts g.before others × EndSays turn.order.task (matter_of turn.order) end parts g.before others) whole g.before calls)
+    (holds_after (λ (whole : List ℕ) (calls : List Call). HasRunAstray {T = Result End Error} (MayTake turn.order.task (matter_of turn.order)) (EndSays turn.order.task (matter_of turn.order)) whole g.before calls)
     c.as_slice.result.now turn.order.bytes.items c.as_slice-2.result.now turn.told.items g.before c.as_slice.ensures.value c.as_slice-2.ensures.value)
     c.next.ensures.strays
