@@ -6,7 +6,8 @@ ghost use Rattle.replica_changes.specs.Loads.{is_one_of};
 ghost use Rattle.replica_reports.specs.Held.{held_in};
 ghost use Rattle.replica_store.specs.Replica.{Replica};
 ghost use Rattle.folder_parts.specs.PartReads.{IsListed, is_refusal_of_part};
-ghost use Rattle.folder_parts.specs.Parts.{IsFaultOf, IsWhole};
+ghost use Rattle.folder_parts.specs.PartName.{part_name};
+ghost use Rattle.folder_parts.specs.Parts.{IsFaultOf};
 ghost use Rattle.folder_parts.specs.Skims.{HasNoneOf, IsOpenedOr, SkimsDeletions, SkimsPart};
 
 use crate::fault::PartFault;
@@ -74,7 +75,7 @@ pub(crate) fn skim_part(
     bytes: &[u8],
     names: LoadNames,
 ) -> Result<SkimmedPart, PartFault>
-    ensures skimmed { (r : Replica) → IsWhole (record { name = name.now; bytes = bytes.now }) → held_in bytes.now ≡ Ok r → SkimsPart (λ part. part.store.replica) (λ part. part.batches) result names.first names.count r }
+    ensures skimmed { (r : Replica) → name.now ≡ part_name bytes.now → held_in bytes.now ≡ Ok r → SkimsPart (λ part. part.store.replica) (λ part. part.batches) result names.first names.count r }
     // It has no batch of these names; or its bytes were compared with its name, and it is opened.
     ensures opened { IfOk result (λ part. IsOpenedOr (HasNoneOf names.first names.count bytes.now) (record { name = name.now; bytes = bytes.now }) part.store.replica) }
     // A part that is refused is at fault.

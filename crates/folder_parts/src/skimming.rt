@@ -7,8 +7,9 @@ ghost use Rattle.table_model.specs.declared.refusal.Refusal.TheVariants.{Memory}
 ghost use Rattle.replica_reports.specs.Held.{held_in};
 ghost use Rattle.replica_store.specs.Replica.{Replica, batch_limit, merged};
 ghost use Rattle.folder_parts.specs.PartReads.{IsListed, is_refusal_of_part};
+ghost use Rattle.folder_parts.specs.PartName.{part_name};
 ghost use Rattle.folder_parts.specs.Parts.{IsWhole};
-ghost use Rattle.folder_parts.specs.Skims.{AnswersLoads, HasNoneOf, IsEnough, IsUnreadPart, SkimsPart};
+ghost use Rattle.folder_parts.specs.Skims.{AnswersLoads, HasNoneOf, IsEnough, IsUnreadPart, SkimsTo};
 
 use crate::fault::PartFault;
 use crate::part_naming::is_part;
@@ -102,7 +103,7 @@ impl Skim {
     /// Refused is, of a part that has one or that can't be skimmed, what [`Join::new`](crate::Join::new) refuses.
     pub fn new(alloc: Global, name: &str, bytes: &[u8], names: LoadNames) -> Result<Skim, PartFault>
         // What is read of a part that is whole is enough of it.
-        ensures skimmed { (r : Replica) → IsWhole (record { name = name.now; bytes = bytes.now }) → held_in bytes.now ≡ Ok r → SkimsPart (λ skim. skim.0) (λ skim. skim.1) result names.first names.count r }
+        ensures skimmed { (r : Replica) → name.now ≡ part_name bytes.now → held_in bytes.now ≡ Ok r → SkimsTo result names.first names.count r }
         // It has none of the names, or its bytes were compared with its name.
         ensures compared { IfOk result (λ skim. HasNoneOf names.first names.count bytes.now ⊎ IsWhole (record { name = name.now; bytes = bytes.now })) }
         // Which refusals there are.
@@ -126,7 +127,7 @@ impl Skim {
         names: LoadNames,
     ) -> Result<Skim, PartFault>
         // If what was read of the parts before is enough of them, it is enough of all with this one, if that is whole.
-        ensures skimmed { (held r new : Replica) → IsWhole (record { name = name.now; bytes = bytes.now }) → held_in bytes.now ≡ Ok r → merged held r ≡ Ok (tt, new) → IsEnough names.first names.count self.0 self.1 held → SkimsPart (λ skim. skim.0) (λ skim. skim.1) result names.first names.count new }
+        ensures skimmed { (held r new : Replica) → name.now ≡ part_name bytes.now → held_in bytes.now ≡ Ok r → merged held r ≡ Ok (tt, new) → IsEnough names.first names.count self.0 self.1 held → SkimsTo result names.first names.count new }
         // It has none of the names, or its bytes were compared with its name.
         ensures compared { IfOk result (λ skim. HasNoneOf names.first names.count bytes.now ⊎ IsWhole (record { name = name.now; bytes = bytes.now })) }
         // Which refusals there are.
