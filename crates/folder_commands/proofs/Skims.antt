@@ -11,7 +11,7 @@ use Rattle.replica_store.specs.Replica.{Replica, batch_limit, merged}
 use Rattle.replica_reports.specs.Held.{held_in}
 use Rattle.folder_parts.specs.PartReads.{IsListed, is_refusal_of_part}
 use Rattle.folder_parts.specs.Parts.{PartForm, IsWhole}
-use Rattle.folder_parts.specs.Skims.{AnswersLoads, IsEnough, SkimsPart}
+use Rattle.folder_parts.specs.Skims.{AnswersLoads, IsEnough, SkimsTo}
 use Rattle.folder_parts.specs.declared.fault.PartFault.{PartFault}
 use Rattle.folder_parts.specs.declared.fault.PartFault.TheVariants.{Refused}
 use Rattle.folder_parts.specs.declared.fault.PartRefusal.{PartRefusal}
@@ -25,24 +25,20 @@ use Rattle.folder_commands.proofs.ReadParts.{count_names, found_later}
 
 -- ---- one part after another
 
--- how a part is skimmed, where all of them hold a replica
-abbrev Skims : Result (Replica × ℕ) PartFault → BatchName → ℕ → Replica → Type 0
-Skims r first count whole = SkimsPart {X = Replica × ℕ} (λ s. s.0) (λ s. s.1) r first count whole
-
 -- what came of one part more
 abbrev pub SkimsMore : Option (Replica × ℕ) → Result (Replica × ℕ) PartFault → BatchName → ℕ → PartForm → Type 0
 SkimsMore had result first count part = (parts : List PartForm) → IsSkimOf had first count parts → SkimsRead result first count (parts ++ part ∷ [])
 
 -- the first part
 pub first_more : (had : Option (Replica × ℕ)) (r : Result (Replica × ℕ) PartFault) (first : BatchName) (count : ℕ) (part : PartForm) → had ≡ None
-    → ((read : Replica) → IsWhole part → held_in part.bytes ≡ Ok read → Skims r first count read) → SkimsMore had r first count part
+    → ((read : Replica) → IsWhole part → held_in part.bytes ≡ Ok read → SkimsTo r first count read) → SkimsMore had r first count part
 first_more had r first count part is skims parts so =
     let none : parts ≡ [] = subst (λ (o : Option (Replica × ℕ)). IsSkimOf o first count parts) is so in
     let alone : SkimsRead r first count (part ∷ []) = λ whole opens. let one = opens_one part whole opens in skims whole one.0 one.1 in
     subst (λ (l : List PartForm). SkimsRead r first count (l ++ part ∷ [])) (sym none) alone
 
 -- a further one
-module _ (skim : Replica × ℕ) (r : Result (Replica × ℕ) PartFault) (first : BatchName) (count : ℕ) (part : PartForm) (skims : (held read new : Replica) → IsWhole part → held_in part.bytes ≡ Ok read → merged held read ≡ Ok (tt, new) → IsEnough first count skim.0 skim.1 held → Skims r first count new) where
+module _ (skim : Replica × ℕ) (r : Result (Replica × ℕ) PartFault) (first : BatchName) (count : ℕ) (part : PartForm) (skims : (held read new : Replica) → IsWhole part → held_in part.bytes ≡ Ok read → merged held read ≡ Ok (tt, new) → IsEnough first count skim.0 skim.1 held → SkimsTo r first count new) where
   with_one : (parts : List PartForm) → SkimsRead (Ok skim) first count parts → SkimsRead r first count (parts ++ part ∷ [])
   with_one [] so = absurd so
   with_one (one ∷ others) so = λ whole opens.

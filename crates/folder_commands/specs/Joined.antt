@@ -46,6 +46,10 @@ abbrev pub IsReadAs : List (List ℕ) → List (List ℕ) → Option Replica →
 IsReadAs passed names None calls = AreUnwanted passed names
 IsReadAs passed names (Some whole) calls = AreRead passed names whole calls
 
+-- These are the names that the last listing gave.
+abbrev pub AreGiven : List (List ℕ) → List Call → Type 0
+AreGiven names calls = listing_of calls ≡ Gave names
+
 -- At some moment between two histories these were the names that the last listing had given.
 abbrev pub WereGiven : List (List ℕ) → List Call → List Call → Type 0
-WereGiven names before after = (first : List Call) × (rest : List Call) × (after ≡ rest ++ (first ++ before)) × (listing_of (first ++ before) ≡ Gave names)
+WereGiven names before after = (first : List Call) × (rest : List Call) × (after ≡ rest ++ (first ++ before)) × AreGiven names (first ++ before)

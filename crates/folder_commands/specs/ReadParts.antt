@@ -1,5 +1,5 @@
 -- The parts of a folder that were read by noted calls, one after another.
-use Rattle.std.specs.Prelude.{◌≡◌, ◌⊎◌, ℕ, suc, List, [], ◌∷◌, ◌++◌, length, map as each, Some, Result, Ok, Err}
+use Rattle.std.specs.Prelude.{◌≡◌, ◌⊎◌, ℕ, suc, List, [], ◌∷◌, ◌++◌, length, map as each, Some, Result, Ok, Err, IfErr}
 use Rattle.table_model.specs.declared.refusal.Refusal.TheVariants.{Memory}
 use Rattle.folder_model.specs.Call.{Call, Read}
 use Rattle.folder_model.specs.Disk.{Among}
@@ -10,6 +10,7 @@ use Rattle.folder_protocol.specs.declared.taking.Untaken.{Untaken}
 use Rattle.folder_protocol.specs.declared.taking.Untaken.TheVariants.{Refused as Refuses}
 use Rattle.folder_parts.specs.Covers.{folder_parts}
 use Rattle.folder_parts.specs.Parts.{PartForm, IsWhole}
+use Rattle.folder_parts.specs.declared.fault.PartFault.{PartFault}
 use Rattle.folder_parts.specs.declared.fault.PartFault.TheVariants.{Refused}
 use Rattle.folder_parts.specs.declared.fault.PartRefusal.{PartRefusal}
 
@@ -17,6 +18,10 @@ use Rattle.folder_parts.specs.declared.fault.PartRefusal.{PartRefusal}
 abbrev pub IfRefused : {E : Type 0} → Untaken E → (E → Type 0) → Type 0
 IfRefused (Refuses refusal) P = P refusal
 IfRefused other P = Unit {0}
+
+-- if an answer is that parts are refused, this is so of the refusal
+abbrev pub IfPartsRefused : {X E : Type 0} → Result X (Untaken E) → (E → Type 0) → Type 0
+IfPartsRefused result P = IfErr result (λ fault. IfRefused fault P)
 
 -- the names of parts
 abbrev pub names_of : List PartForm → List (List ℕ)
@@ -62,3 +67,7 @@ pub record StopsReading (P : List PartForm → Type 0) (refusal : PartRefusal) (
   pub named : wanted ≡ names_of parts ++ rest
   pub counted : length parts ≡ suc refusal.part
   pub so : P parts
+
+-- Parts were read, of the first of these names, and the last of them is refused. This is so of its fault and of all that were read.
+abbrev pub StopsAtFault : (PartFault → List PartForm → Type 0) → PartRefusal → List (List ℕ) → List Call → List Call → Type 0
+StopsAtFault stops refusal wanted before after = StopsReading (stops refusal.fault) refusal wanted before after

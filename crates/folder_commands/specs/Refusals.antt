@@ -1,5 +1,5 @@
 -- Why parts of a folder are refused that are read and joined.
-use Rattle.std.specs.Prelude.{◌≡◌, ◌⊎◌, ℕ, List, ◌∷◌, ◌++◌, filter, length}
+use Rattle.std.specs.Prelude.{◌≡◌, ◌⊎◌, ℕ, List, ◌∷◌, ◌++◌, length}
 use Rattle.table_model.specs.declared.refusal.Refusal.TheVariants.{Memory}
 use Rattle.folder_model.specs.Call.{Call}
 use Rattle.folder_parts.specs.Parts.{PartForm, IsPartRefusal}
@@ -7,7 +7,7 @@ use Rattle.folder_parts.specs.declared.fault.PartFault.TheVariants.{Refused}
 use Rattle.folder_parts.specs.declared.fault.PartRefusal.{PartRefusal}
 use Rattle.folder_commands.specs.Joined.{WereGiven}
 use Rattle.folder_commands.specs.ReadParts.{names_of, AreFound}
-use Rattle.folder_commands.specs.Wanted.{is_wanted}
+use Rattle.folder_commands.specs.Wanted.{wanted_of}
 
 -- Parts were read by the calls between two histories, and the last of them, which is told, is at fault: its name is that of other bytes; or its
 -- bytes are refused so, alone if it is the first, and else beside what those before it hold together; or there was no memory for it.
@@ -18,7 +18,7 @@ pub record IsPartAtFault (refusal : PartRefusal) (passed names : List (List ℕ)
   -- each was read, under its name and with its bytes
   pub found : AreFound (part ∷ others) before after
   -- they are the first of those that are wanted, in the order of the names
-  pub named : filter (is_wanted passed) names ≡ names_of (part ∷ others) ++ rest
+  pub named : wanted_of passed names ≡ names_of (part ∷ others) ++ rest
   pub last : refusal.part ≡ length others
   pub fault : IsPartRefusal refusal part others
 

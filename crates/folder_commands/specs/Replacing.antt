@@ -1,5 +1,5 @@
 -- What a pack and a forget put in the place of the parts that they have read.
-use Rattle.std.specs.Prelude.{◌≡◌, ℕ, true, List, [], filter, Option, Some, None, Ok, IfSome}
+use Rattle.std.specs.Prelude.{◌≡◌, ℕ, true, List, [], filter, Option, Some, None, Ok, IfSome, option_map, map, string_bytes}
 use Rattle.folder_model.specs.Call.{Call}
 use Rattle.folder_model.specs.Disk.{Among}
 use Rattle.folder_model.specs.Turn.{HasRead, IsStored}
@@ -15,6 +15,7 @@ use Rattle.folder_parts.specs.Covers.{covers, folder_parts}
 use Rattle.folder_parts.specs.PartName.{part_name}
 use Rattle.folder_commands.specs.Joined.{AreRead}
 use Rattle.folder_commands.specs.Wanted.{is_wanted, goes}
+use Rattle.folder_commands.specs.declared.replacing.Replaced.{Replaced}
 
 -- The parts of these names that are wanted were read by these calls, and these bytes cover them.
 abbrev pub AreCoveredBy : List (List ℕ) → List (List ℕ) → List ℕ → List Call → Type 0
@@ -48,6 +49,10 @@ pub record LeavesForgotten (passed names : List (List ℕ)) (dropped : ℕ × �
   pub forgot : forgetting whole ≡ Ok (dropped, left)
   pub read : held_in (file_of left) ≡ Ok (as_held left)
   pub replaces : Replaces passed names (file_of left) name gone outcome before after
+
+-- what came of a part that was to be put, if there was one: its name, the names of those that go, and the outcome
+abbrev pub replaced_of : Option Replaced → Option (List ℕ × List (List ℕ) × Option Outcome)
+replaced_of replaced = option_map (λ (done : Replaced). (string_bytes done.name, map string_bytes done.gone.items, done.outcome)) replaced
 
 -- A forget of the parts of these names: no batch of their join is to be dropped, and nothing is put; or what is left is put.
 abbrev pub IsForgot : List (List ℕ) → List (List ℕ) → ℕ × ℕ → Option (List ℕ × List (List ℕ) × Option Outcome) → List Call → List Call → Type 0

@@ -1,5 +1,5 @@
 //! A forget: the parts of a folder are read and joined, and what is left of them without dead batches is put in their place.
-ghost use Rattle.std.specs.Prelude.{◌≡◌, ◌==◌, not, true, Ok, None, List, ℕ, map, string_bytes, IfOk, IfErr, IfSome, option_map};
+ghost use Rattle.std.specs.Prelude.{◌≡◌, ◌==◌, not, true, Ok, None, List, ℕ, map, string_bytes, IfOk, IfErr, IfSome};
 ghost use Rattle.folder_model.specs.Call.{lock_of};
 ghost use Rattle.table_model.specs.declared.refusal.Refusal.TheVariants.{Memory};
 ghost use Rattle.folder_model.specs.Parts.{IsNoPart};
@@ -12,9 +12,9 @@ ghost use Rattle.replica_changes.specs.Commands.{file_of, as_held};
 ghost use Rattle.replica_changes.specs.Forgetting.{forgetting};
 ghost use Rattle.folder_parts.specs.Covers.{folder_parts};
 ghost use Rattle.folder_commands.specs.Joined.{AreUnwanted, WereGiven};
-ghost use Rattle.folder_commands.specs.ReadParts.{IfRefused};
+ghost use Rattle.folder_commands.specs.ReadParts.{IfPartsRefused};
 ghost use Rattle.folder_commands.specs.Refusals.{IsFolderRefused};
-ghost use Rattle.folder_commands.specs.Replacing.{IsForgot};
+ghost use Rattle.folder_commands.specs.Replacing.{IsForgot, replaced_of};
 
 use crate::reading::{Read, read_folder, refused};
 use crate::reliance::Reliance;
@@ -63,13 +63,13 @@ pub fn forget<F: Folder>(
     // So it is with the name of a temporary, which is no part's.
     ensures in_turn_named { is_temporary temporary.now ≡ true → GoesInTurn folder_parts (F.history folder.old) (F.history folder.new) }
     // What is put is what a forget leaves of the parts that were read, and these are removed.
-    ensures forgot { IfOk result (λ answer. IfSome answer (λ f. IsForgot (map string_bytes passed.now) (map string_bytes f.names.items) (f.dropped.batches, f.dropped.rows) (option_map (λ done. (string_bytes done.name, map string_bytes done.gone.items, done.outcome)) f.replaced) (F.history folder.old) (F.history folder.new))) }
+    ensures forgot { IfOk result (λ answer. IfSome answer (λ f. IsForgot (map string_bytes passed.now) (map string_bytes f.names.items) (f.dropped.batches, f.dropped.rows) (replaced_of f.replaced) (F.history folder.old) (F.history folder.new))) }
     // Its names are those that a listing gave.
     ensures listed { IfOk result (λ answer. IfSome answer (λ f. WereGiven (map string_bytes f.names.items) (F.history folder.old) (F.history folder.new))) }
     // None if a listing gave no part's name, but for those that are passed over.
     ensures none { IfOk result (λ answer. answer ≡ None → (names : List (List ℕ)) × WereGiven names (F.history folder.old) (F.history folder.new) × AreUnwanted (map string_bytes passed.now) names) }
     // A part that is refused is at fault, or memory ran out.
-    ensures refused { IfErr result (λ fault. IfRefused fault (λ refusal. IsFolderRefused refusal (map string_bytes passed.now) (F.history folder.old) (F.history folder.new))) }
+    ensures refused { IfPartsRefused result (λ refusal. IsFolderRefused refusal (map string_bytes passed.now) (F.history folder.old) (F.history folder.new)) }
     // An error has its cause: a part that was gone, a call that failed, or a part that is refused.
     ensures cause { IfErr result (λ fault. UntakenCause fault (F.history folder.old) (F.history folder.new)) }
     // It leaves no lock, whatever the answer is.

@@ -1,5 +1,5 @@
 //! What is made of the parts of a folder that are read one after another.
-ghost use Rattle.std.specs.Prelude.{◌≡◌, ℕ, List, [], map, filter, string_bytes, IfOk, IfErr};
+ghost use Rattle.std.specs.Prelude.{◌≡◌, ℕ, List, [], map, string_bytes, IfOk, IfErr};
 ghost use Rattle.folder_model.specs.Turn.{listing_of};
 ghost use Rattle.folder_protocol.specs.Goes.{GoesInTurn};
 ghost use Rattle.folder_protocol.specs.Linking.{GoesPlainly};
@@ -7,8 +7,8 @@ ghost use Rattle.folder_protocol.specs.Taking.{UntakenCause};
 ghost use Rattle.folder_parts.specs.Covers.{folder_parts};
 ghost use Rattle.folder_parts.specs.Parts.{PartForm};
 ghost use Rattle.folder_parts.specs.declared.fault.PartFault.{PartFault};
-ghost use Rattle.folder_commands.specs.ReadParts.{AreReadSoFar, IfRefused, More, ReadsOne, StopsReading};
-ghost use Rattle.folder_commands.specs.Wanted.{is_wanted};
+ghost use Rattle.folder_commands.specs.ReadParts.{AreReadSoFar, IfPartsRefused, More, ReadsOne, StopsAtFault};
+ghost use Rattle.folder_commands.specs.Wanted.{wanted_of};
 
 use crate::wanted::is_wanted;
 use folder_parts::{PartFault, PartRefusal};
@@ -50,7 +50,7 @@ fn gather_one<F: Folder, G: Gathers>(
     ensures in_turn { GoesInTurn folder_parts (F.history folder.old) (F.history folder.new) }
     ensures listing { listing_of (F.history folder.new) ≡ listing_of (F.history folder.old) }
     ensures one { IfOk result (λ next. ReadsOne name.now (More (G.made_of way.now made) (G.made_of way.now next)) (F.history folder.old) (F.history folder.new)) }
-    ensures refused { IfErr result (λ fault. IfRefused fault (λ refusal. (refusal.part ≡ place) × ReadsOne name.now (More (G.made_of way.now made) (G.stops way.now refusal.fault)) (F.history folder.old) (F.history folder.new))) }
+    ensures refused { IfPartsRefused result (λ refusal. (refusal.part ≡ place) × ReadsOne name.now (More (G.made_of way.now made) (G.stops way.now refusal.fault)) (F.history folder.old) (F.history folder.new)) }
     ensures cause { IfErr result (λ fault. UntakenCause fault (F.history folder.old) (F.history folder.new)) }
     ensures plain { GoesPlainly (F.history folder.old) (F.history folder.new) }
 {
@@ -76,9 +76,9 @@ pub(crate) fn gather_each<F: Folder, G: Gathers>(
     ensures in_turn { GoesInTurn folder_parts (F.history folder.old) (F.history folder.new) }
     ensures listing { listing_of (F.history folder.new) ≡ listing_of (F.history folder.old) }
     // Each part was read, and this is what is made of them.
-    ensures read { G.made_of way.now start [] → IfOk result (λ made. (many : ℕ) × AreReadSoFar (G.made_of way.now made) many (filter (is_wanted (map string_bytes passed.now)) (map string_bytes listed.now)) (F.history folder.old) (F.history folder.new)) }
+    ensures read { G.made_of way.now start [] → IfOk result (λ made. (many : ℕ) × AreReadSoFar (G.made_of way.now made) many (wanted_of (map string_bytes passed.now) (map string_bytes listed.now)) (F.history folder.old) (F.history folder.new)) }
     // If a part is refused, those up to it were read, and this is so of them.
-    ensures refused { G.made_of way.now start [] → IfErr result (λ fault. IfRefused fault (λ refusal. StopsReading (G.stops way.now refusal.fault) refusal (filter (is_wanted (map string_bytes passed.now)) (map string_bytes listed.now)) (F.history folder.old) (F.history folder.new))) }
+    ensures refused { G.made_of way.now start [] → IfPartsRefused result (λ refusal. StopsAtFault (G.stops way.now) refusal (wanted_of (map string_bytes passed.now) (map string_bytes listed.now)) (F.history folder.old) (F.history folder.new)) }
     ensures cause { IfErr result (λ fault. UntakenCause fault (F.history folder.old) (F.history folder.new)) }
     ensures plain { GoesPlainly (F.history folder.old) (F.history folder.new) }
 {

@@ -10,7 +10,7 @@ ghost use Rattle.replica_reports.specs.Held.{held_in};
 ghost use Rattle.replica_changes.specs.Commands.{file_of, as_held};
 ghost use Rattle.folder_parts.specs.Covers.{folder_parts};
 ghost use Rattle.folder_commands.specs.Joined.{AreUnwanted};
-ghost use Rattle.folder_commands.specs.ReadParts.{IfRefused};
+ghost use Rattle.folder_commands.specs.ReadParts.{IfPartsRefused};
 ghost use Rattle.folder_commands.specs.Refusals.{IsReadRefused};
 ghost use Rattle.folder_commands.specs.Replacing.{Packs};
 
@@ -53,7 +53,7 @@ pub fn pack<F: Folder>(
     // None if no name is a part's.
     ensures none { IfOk result (λ answer. answer ≡ None → AreUnwanted [] (map string_bytes names.now)) }
     // A part that is refused is at fault, or memory ran out.
-    ensures refused { IfErr result (λ fault. IfRefused fault (λ refusal. IsReadRefused refusal [] (map string_bytes names.now) (F.history folder.old) (F.history folder.new))) }
+    ensures refused { IfPartsRefused result (λ refusal. IsReadRefused refusal [] (map string_bytes names.now) (F.history folder.old) (F.history folder.new)) }
     // An error has its cause: a part that was gone, a call that failed, or a part that is refused.
     ensures cause { IfErr result (λ fault. UntakenCause fault (F.history folder.old) (F.history folder.new)) }
     // It leaves no lock.

@@ -8,7 +8,7 @@ ghost use Rattle.folder_protocol.specs.Linking.{GoesPlainly};
 ghost use Rattle.folder_protocol.specs.Taking.{UntakenCause};
 ghost use Rattle.folder_parts.specs.Covers.{folder_parts};
 ghost use Rattle.folder_commands.specs.Joined.{IsReadAs};
-ghost use Rattle.folder_commands.specs.ReadParts.{IfRefused};
+ghost use Rattle.folder_commands.specs.ReadParts.{IfPartsRefused};
 ghost use Rattle.folder_commands.specs.Refusals.{IsFolderRefused, IsReadRefused};
 ghost use Rattle.folder_commands.specs.Relying.{AreAllRelied};
 
@@ -52,7 +52,7 @@ fn join_named<F: Folder>(
     ensures relied { IfOk result (λ answer. IfSome answer (λ joined. AreAllRelied reliance.now (map string_bytes joined.relied.items) joined.store.replica (F.history folder.new))) }
     ensures listing { listing_of (F.history folder.new) ≡ listing_of (F.history folder.old) }
     ensures since { (listed : List (List ℕ)) → listing_of (F.history folder.old) ≡ Gave listed → map string_bytes passed.now ≡ [] → listed ≡ map string_bytes names.now → OnOk result (HasReadAll folder_parts (F.history folder.new)) }
-    ensures refused { IfErr result (λ fault. IfRefused fault (λ refusal. IsReadRefused refusal (map string_bytes passed.now) (map string_bytes names.now) (F.history folder.old) (F.history folder.new))) }
+    ensures refused { IfPartsRefused result (λ refusal. IsReadRefused refusal (map string_bytes passed.now) (map string_bytes names.now) (F.history folder.old) (F.history folder.new)) }
     ensures cause { IfErr result (λ fault. UntakenCause fault (F.history folder.old) (F.history folder.new)) }
     ensures plain { GoesPlainly (F.history folder.old) (F.history folder.new) }
 {
@@ -91,7 +91,7 @@ pub fn read_named<F: Folder>(
     // If it gave these names and none is to be passed over, all that it gave was read.
     ensures since { (listed : List (List ℕ)) → listing_of (F.history folder.old) ≡ Gave listed → map string_bytes passed.now ≡ [] → listed ≡ map string_bytes names.now → OnOk result (HasReadAll folder_parts (F.history folder.new)) }
     // A part that is refused is at fault, or memory ran out.
-    ensures refused { IfErr result (λ fault. IfRefused fault (λ refusal. IsReadRefused refusal (map string_bytes passed.now) (map string_bytes names.now) (F.history folder.old) (F.history folder.new))) }
+    ensures refused { IfPartsRefused result (λ refusal. IsReadRefused refusal (map string_bytes passed.now) (map string_bytes names.now) (F.history folder.old) (F.history folder.new)) }
     // That they were not all read has its cause.
     ensures cause { IfErr result (λ fault. UntakenCause fault (F.history folder.old) (F.history folder.new)) }
     // It gives no name, changes no lock, and lists nothing.
@@ -136,7 +136,7 @@ pub fn read_folder<F: Folder>(
     // If no name was passed over, all that a listing under the lock gave was read.
     ensures all { map string_bytes passed.now ≡ [] → OnOk result (HasReadAll folder_parts (F.history folder.new)) }
     // A part that is refused is at fault, or memory ran out.
-    ensures refused { IfErr result (λ fault. IfRefused fault (λ refusal. IsFolderRefused refusal (map string_bytes passed.now) (F.history folder.old) (F.history folder.new))) }
+    ensures refused { IfPartsRefused result (λ refusal. IsFolderRefused refusal (map string_bytes passed.now) (F.history folder.old) (F.history folder.new)) }
     // That they were not all read has its cause.
     ensures cause { IfErr result (λ fault. UntakenCause fault (F.history folder.old) (F.history folder.new)) }
     // It leaves no lock, whatever the answer is.

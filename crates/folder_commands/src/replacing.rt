@@ -6,7 +6,7 @@ ghost use Rattle.folder_protocol.specs.Goes.{GoesInTurn};
 ghost use Rattle.folder_protocol.specs.Taking.{UntakenCause};
 ghost use Rattle.folder_parts.specs.Covers.{folder_parts};
 ghost use Rattle.folder_parts.specs.PartName.{part_name};
-ghost use Rattle.folder_commands.specs.ReadParts.{IfRefused};
+ghost use Rattle.folder_commands.specs.ReadParts.{IfPartsRefused};
 ghost use Rattle.folder_commands.specs.Refusals.{LacksMemory};
 ghost use Rattle.folder_commands.specs.Replacing.{AreCoveredBy, Replaces};
 ghost use Rattle.folder_commands.specs.Wanted.{goes};
@@ -58,7 +58,7 @@ pub(crate) fn replace_read<F: Folder>(
     ensures in_turn { IsNoPart folder_parts temporary.now → AreCoveredBy (map string_bytes passed.now) (map string_bytes names.now) bytes.now (F.history folder.old) → GoesInTurn folder_parts (F.history folder.old) (F.history folder.new) }
     // The part is named by its bytes, and those that are wanted go, but for itself.
     ensures replaces { IfOk result (λ done. Replaces (map string_bytes passed.now) (map string_bytes names.now) bytes.now (string_bytes done.name) (map string_bytes done.gone.items) done.outcome (F.history folder.old) (F.history folder.new)) }
-    ensures refused { IfErr result (λ fault. IfRefused fault LacksMemory) }
+    ensures refused { IfPartsRefused result LacksMemory }
     ensures cause { IfErr result (λ fault. UntakenCause fault (F.history folder.old) (F.history folder.new)) }
     // It leaves no lock.
     ensures unlocked { lock_of (F.history folder.old) ≡ None → lock_of (F.history folder.new) ≡ None }

@@ -1,16 +1,16 @@
 //! What of a folder's parts is read for a load under given names.
-ghost use Rattle.std.specs.Prelude.{◌≡◌, List, ℕ, Ok, Err, Some, None, map, filter, string_bytes, IfOk, IfErr, IfSome};
-ghost use Rattle.folder_model.specs.Turn.{Gave, listing_of};
+ghost use Rattle.std.specs.Prelude.{◌≡◌, List, ℕ, Err, Some, None, map, string_bytes, IfOk, IfErr, IfSome};
+ghost use Rattle.folder_model.specs.Turn.{listing_of};
 ghost use Rattle.folder_protocol.specs.Goes.{GoesInTurn};
 ghost use Rattle.folder_protocol.specs.Taking.{UntakenCause};
 ghost use Rattle.folder_parts.specs.Covers.{folder_parts};
 ghost use Rattle.folder_parts.specs.PartReads.{IsListed, is_refusal_of_part};
-ghost use Rattle.folder_commands.specs.Joined.{AreUnwanted, WereGiven};
-ghost use Rattle.folder_commands.specs.ReadParts.{IfRefused, More};
+ghost use Rattle.folder_commands.specs.Joined.{AreGiven, AreUnwanted, WereGiven};
+ghost use Rattle.folder_commands.specs.ReadParts.{IfPartsRefused, More};
 ghost use Rattle.folder_commands.specs.Relying.{AreReadRelied, AreRelied};
-ghost use Rattle.folder_commands.specs.Skims.{AreSkimmed, IsSkimRefused, IsSkimOf, SkimsRead};
+ghost use Rattle.folder_commands.specs.Skims.{AreSkimmedAs, IsSkimRefused, IsSkimOf, SkimsRead};
 ghost use Rattle.folder_commands.specs.declared.reliance.Reliance.TheVariants.{Load};
-ghost use Rattle.folder_commands.specs.Wanted.{is_wanted};
+ghost use Rattle.folder_commands.specs.Wanted.{wanted_of};
 
 use crate::gathering::{Gathers, gather_each};
 use crate::reading::refused;
@@ -90,9 +90,9 @@ fn skim_named<F: Folder>(
 ) -> Result<Option<(SkimmedParts, Vec<String>)>, Untaken<PartRefusal>>
     ensures in_turn { GoesInTurn folder_parts (F.history folder.old) (F.history folder.new) }
     ensures listing { listing_of (F.history folder.new) ≡ listing_of (F.history folder.old) }
-    ensures answers { IfOk result (λ answer. IfSome answer (λ both. AreSkimmed (λ p. p.held.replica) (λ p. p.batches) (Ok both.0) (map string_bytes passed.now) (map string_bytes listed.now) names.first names.count (F.history folder.old) (F.history folder.new))) }
-    ensures relied { IfOk result (λ answer. IfSome answer (λ both. AreReadRelied (Load names) (map string_bytes both.1.items) (filter (is_wanted (map string_bytes passed.now)) (map string_bytes listed.now)) (F.history folder.old) (F.history folder.new))) }
-    ensures refused { (given : List (List ℕ)) → listing_of (F.history folder.old) ≡ Gave given → given ≡ map string_bytes listed.now → IfErr result (λ fault. IfRefused fault (λ refusal. IsSkimRefused refusal (map string_bytes passed.now) names.first names.count (F.history folder.old) (F.history folder.new))) }
+    ensures answers { IfOk result (λ answer. IfSome answer (λ both. AreSkimmedAs both.0 (map string_bytes passed.now) (map string_bytes listed.now) names.first names.count (F.history folder.old) (F.history folder.new))) }
+    ensures relied { IfOk result (λ answer. IfSome answer (λ both. AreReadRelied (Load names) (map string_bytes both.1.items) (wanted_of (map string_bytes passed.now) (map string_bytes listed.now)) (F.history folder.old) (F.history folder.new))) }
+    ensures refused { AreGiven (map string_bytes listed.now) (F.history folder.old) → IfPartsRefused result (λ refusal. IsSkimRefused refusal (map string_bytes passed.now) names.first names.count (F.history folder.old) (F.history folder.new)) }
     ensures none { IfOk result (λ answer. answer ≡ None → AreUnwanted (map string_bytes passed.now) (map string_bytes listed.now)) }
     ensures cause { IfErr result (λ fault. UntakenCause fault (F.history folder.old) (F.history folder.new)) }
 {
@@ -133,11 +133,11 @@ pub fn skim_folder<F: Folder>(
     // Its names are those that a listing gave.
     ensures listed { IfOk result (λ answer. IfSome answer (λ s. WereGiven (map string_bytes s.names.items) (F.history folder.old) (F.history folder.new))) }
     // Each part that is wanted was read, and if these are whole, loads are answered as from all of them.
-    ensures answers { IfOk result (λ answer. IfSome answer (λ s. AreSkimmed (λ p. p.held.replica) (λ p. p.batches) (Ok s.held) (map string_bytes passed.now) (map string_bytes s.names.items) names.first names.count (F.history folder.old) (F.history folder.new))) }
+    ensures answers { IfOk result (λ answer. IfSome answer (λ s. AreSkimmedAs s.held (map string_bytes passed.now) (map string_bytes s.names.items) names.first names.count (F.history folder.old) (F.history folder.new))) }
     // Of each part that was read and has a batch of one of the names, the name is among those that are told.
-    ensures relied { IfOk result (λ answer. IfSome answer (λ s. AreReadRelied (Load names) (map string_bytes s.relied.items) (filter (is_wanted (map string_bytes passed.now)) (map string_bytes s.names.items)) (F.history folder.old) (F.history folder.new))) }
+    ensures relied { IfOk result (λ answer. IfSome answer (λ s. AreReadRelied (Load names) (map string_bytes s.relied.items) (wanted_of (map string_bytes passed.now) (map string_bytes s.names.items)) (F.history folder.old) (F.history folder.new))) }
     // If a part is refused, those up to it were read; if these are whole, memory ran out.
-    ensures refused { IfErr result (λ fault. IfRefused fault (λ refusal. IsSkimRefused refusal (map string_bytes passed.now) names.first names.count (F.history folder.old) (F.history folder.new))) }
+    ensures refused { IfPartsRefused result (λ refusal. IsSkimRefused refusal (map string_bytes passed.now) names.first names.count (F.history folder.old) (F.history folder.new)) }
     // None if a listing gave no part's name, but for those that are passed over.
     ensures none { IfOk result (λ answer. answer ≡ None → (given : List (List ℕ)) × WereGiven given (F.history folder.old) (F.history folder.new) × AreUnwanted (map string_bytes passed.now) given) }
     // An error has its cause: a part that was gone, a call that failed, or a part that is refused.

@@ -1,6 +1,7 @@
 -- The names are listed, and then their parts are skimmed.
 use Rattle.std.specs.Prelude.{Option, Ok, IfSome, filter, map, string_bytes}
-use Rattle.std.proofs.Common.{Global, String, Vec, sym, ap, subst}
+use Rattle.std.proofs.Common.{Global, String, Vec, sym, ap, subst, ◌∙◌}
+use Rattle.folder_model.specs.Turn.{Gave}
 use Rattle.folder_protocol.proofs.Lines.{joins}
 use Rattle.folder_protocol.proofs.TakeLines.{untaken_later}
 use Rattle.folder_parts.specs.Covers.{folder_parts}
@@ -80,7 +81,7 @@ returns-in-Err-skim_named-clause-refused g c =
     let after = g.F.Folder.history c.skim_named.new.folder in
     if_refused c.in-Err-skim_named.fault (λ (r : PartRefusal). IsSkimRefused r passed first count mid after) (λ (r : PartRefusal). IsSkimRefused r passed first count before after)
     (λ r so. refused_later r passed first count before mid after (lists.0, lists.1) so)
-    (c.in-Err-skim_named.ensures.refused (map string_bytes c.in-Ok.listed.items) c.in-Ok.ensures.listed (ap (λ l. map string_bytes l) (sym c.as_slice.ensures.value)))
+    (c.in-Err-skim_named.ensures.refused (c.in-Ok.ensures.listed ∙ ap (λ l. Gave (map string_bytes l)) (sym c.as_slice.ensures.value)))
 
 pub returns-in-Err-skim_named-clause-cause : goal.returns-in-Err-skim_named-clause-cause
 returns-in-Err-skim_named-clause-cause g c =

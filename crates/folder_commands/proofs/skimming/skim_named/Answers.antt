@@ -1,8 +1,7 @@
 -- What was read of all parts answers loads.
 use Rattle.std.specs.Prelude.{ℕ, List, Option, Some, Ok, Err, filter, map, string_bytes}
-use Rattle.std.proofs.Common.{refl, sym, ap, subst, ◌∙◌}
+use Rattle.std.proofs.Common.{refl, sym, ap, subst}
 use Rattle.table_model.specs.declared.refusal.Refusal.{Refusal}
-use Rattle.folder_model.specs.Turn.{Gave}
 use Rattle.folder_protocol.specs.declared.taking.Untaken.{Untaken}
 use Rattle.folder_protocol.proofs.Causing.{follows_none}
 use Rattle.replica_store.specs.Replica.{Replica}
@@ -67,7 +66,7 @@ returns-in-Ok-into_parts-clause-relied g c =
     )
 
 pub returns-in-Err-clause-refused : goal.returns-in-Err-clause-refused
-returns-in-Err-clause-refused g c = λ given gave same.
+returns-in-Err-clause-refused g c = λ gave.
     let first = c.args.names.first in
     let count = c.args.names.count in
     let passed = map string_bytes c.args.passed.now in
@@ -77,11 +76,11 @@ returns-in-Err-clause-refused g c = λ given gave same.
     let goes = c.gather_each.ensures.in_turn in
     if_refused c.in-Err.fault (λ (r : PartRefusal). StopsReading (λ parts. SkimsRead (Err r.fault) first count parts × IsListed is_refusal_of_part r.fault) r (filter (is_wanted passed) listed) before after)
     (λ (r : PartRefusal). IsSkimRefused r passed first count before after)
-    (λ r so. one_refused r passed listed first count before after so (were_given listed before before after (follows_none before) (goes.0, goes.1) (gave ∙ ap Gave same)))
+    (λ r so. one_refused r passed listed first count before after so (were_given listed before before after (follows_none before) (goes.0, goes.1) gave))
     (c.in-Err.ensures.refused (refl, λ part item among. absurd among))
 
 pub returns-in-Err-into_parts-clause-refused : goal.returns-in-Err-into_parts-clause-refused
-returns-in-Err-into_parts-clause-refused g c = λ given gave same.
+returns-in-Err-into_parts-clause-refused g c = λ gave.
     let first = c.args.names.first in
     let count = c.args.names.count in
     let passed = map string_bytes c.args.passed.now in
@@ -98,4 +97,4 @@ returns-in-Err-into_parts-clause-refused g c = λ given gave same.
     (all_lack refusal c.in-Some.skim read.0 passed listed first count before after
     (subst (λ (o : Option (Replica × ℕ)). AreReadSoFar (IsSkimOf o first count) read.0 (filter (is_wanted passed) listed) before after) c.in-Some.is so)
     (ap (λ (e : Refusal). let r : PartRefusal = record { part = 0; fault = Refused e } in r) c.in-Err-into_parts.ensures.refused)
-    (were_given listed before before after (follows_none before) (goes.0, goes.1) (gave ∙ ap Gave same)))
+    (were_given listed before before after (follows_none before) (goes.0, goes.1) gave))
