@@ -87,6 +87,7 @@ module _ {X Y : Type 0} (view : X → Y) (changed : X → Bool) (command : Repli
             subst (λ (b : List ℕ). Reads d name (Some b)) is_file reads,
             subst (λ (b : List ℕ). held_in b ≡ Ok old) is_file held_old,
             made,
+            held_new,
             there ∙ ap (λ (b : List ℕ). Some b) is_new,
           ))
           told laters d c (inr (inr later)) = inr (inr later)

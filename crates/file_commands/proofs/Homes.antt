@@ -84,8 +84,8 @@ keeps_home command covering lock name before after covers told laters d e moment
     so : (left : Option (List ℕ)) → MayLeave d name left ⊎ ((v : Disk) × WasHeld lock name laters told.0 d v × IsFileAfter command name v left) ⊎ Contains laters left
         → BeforeOrCovering covering name laters d left
     so left (inl before) = inl before
-    so left (inr (inl (v, had, (old, new, answer, read, held, made, is)))) =
-        inr (inl (file_of old, file_of new, had.old (Some (file_of old)) (may_leave v name (file_of old) read), covers old new answer held made, is))
+    so left (inr (inl (v, had, (old, new, answer, read, held, made, again, is)))) =
+        inr (inl (file_of old, file_of new, had.old (Some (file_of old)) (may_leave v name (file_of old) read), covers old new answer held made again, is))
     so left (inr (inr there)) = inr (inr there)
 
 pub home_laws : FileHomeLaws

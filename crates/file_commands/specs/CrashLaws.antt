@@ -19,11 +19,12 @@ use Rattle.file_commands.specs.declared.outcome.Left.{Left}
 use Rattle.file_commands.specs.declared.outcome.Left.TheVariants.{Changed, Kept, KeptUnsynced}
 
 -- The file of the state after: when the lock was had the file read as the canonical file of a replica, the command makes another of
--- that, and this is the canonical file of the other.
+-- that, and this is the canonical file of the other, which is read as that.
 abbrev pub IsFileAfter : {Y : Type 0} → (Replica → Made Y) → List ℕ → Disk → Option (List ℕ) → Type 0
 IsFileAfter {Y = Y} command name d c =
     (old : Replica) × (new : Replica) × (answer : Y)
-    × Reads d name (Some (file_of old)) × (held_in (file_of old) ≡ Ok old) × (command old ≡ Ok (answer, new)) × (c ≡ Some (file_of new))
+    × Reads d name (Some (file_of old)) × (held_in (file_of old) ≡ Ok old) × (command old ≡ Ok (answer, new))
+    × (held_in (file_of new) ≡ Ok (as_held new)) × (c ≡ Some (file_of new))
 
 -- A crash at any moment between two histories leaves what a crash could leave when the lock was had, or the file of the state after, or
 -- what a later holder of the lock put there.

@@ -3,7 +3,7 @@ use Rattle.std.specs.Prelude.{◌≡◌, ◌⊎◌, ℕ, Bool, true, List, Optio
 use Rattle.folder_model.specs.Keeps.{Keeps}
 use Rattle.replica_store.specs.Replica.{Replica}
 use Rattle.replica_reports.specs.Held.{held_in}
-use Rattle.replica_changes.specs.Commands.{Made, file_of}
+use Rattle.replica_changes.specs.Commands.{Made, file_of, as_held}
 use Rattle.file_protocol.specs.Event.{Event}
 use Rattle.file_protocol.specs.Disk.{Disk, MayLeave, Reads}
 use Rattle.file_protocol.specs.Safe.{Moment, Restarts}
@@ -66,10 +66,11 @@ FilesKeep =
     (covering : Covering) (name : List ℕ) →
     Keeps {M = Disk} (LaterInFile covering name) (SafeInFile covering name) (AnsweredInFile covering name) (BeganInFile covering name) (ReadInFile covering)
 
--- the file that a command makes covers the one that it reads
+-- The file that a command makes covers the one that it reads, if it is read as what the command makes.
 abbrev pub Covers : {Y : Type 0} → Covering → (Replica → Made Y) → Type 0
 Covers {Y = Y} covering command =
-    (old new : Replica) (answer : Y) → held_in (file_of old) ≡ Ok old → command old ≡ Ok (answer, new) → covering.covers (file_of new) (file_of old) ≡ true
+    (old new : Replica) (answer : Y) → held_in (file_of old) ≡ Ok old → command old ≡ Ok (answer, new) → held_in (file_of new) ≡ Ok (as_held new) →
+    covering.covers (file_of new) (file_of old) ≡ true
 
 -- Each moment of such a command, from whatever disk it took the lock on, is one of those.
 abbrev pub KeepsHome : {Y : Type 0} → (Replica → Made Y) → Type 0
