@@ -749,6 +749,63 @@ uint8_t lanes_table_delete_part(lanes_table *table, const uint8_t *condition, si
 /* Closes a handle of parts. Closing a closed one does nothing. */
 void lanes_parts_close(lanes_parts *parts);
 
+/* What a load under given names is answered from: of a part that has a batch of such a name all that it holds, and of any other its deletions
+ * alone, whose values are passed over. So a load costs little where the folder is large. A handle of it is as one of parts: set it to
+ * LANES_NO_SKIM before its first use, don't copy it, give it to one call at a time, close it, and leave it on its thread.
+ *
+ *     lanes_skim skim = LANES_NO_SKIM;
+ *     for each name that LANES_FOLDER_LIST gave: read the file of this name, and
+ *         number = lanes_skim_take(&skim, origin, first, count, name, name_length, bytes, bytes_length, &place);
+ *         if (lanes_table_meets(&load, bytes, bytes_length)) the load rests on this part
+ *     number = lanes_skim_open(&skim, &table, &batches, &place);
+ *     number = lanes_table_bring(&table, file, file_length, &fresh, out, room, &length, &place);     the load's file is an offer
+ *     keep the parts on which the load rests, by LANES_FOLDER_KEEP_ALL, and put what was given, by LANES_FOLDER_PUT_JUDGED */
+typedef struct lanes_skim {
+    void *read;
+} lanes_skim;
+
+/* A handle of nothing that was read. */
+#ifdef __cplusplus
+#define LANES_NO_SKIM (lanes_skim{})
+#else
+#define LANES_NO_SKIM ((lanes_skim){NULL})
+#endif
+
+/* Takes a part for a load of `count` batches under consecutive names, the first of which is `origin`.`number`: the part's name, and the bytes of
+ * the file of this name, which may go then. Give each call for one handle the same three numbers.
+ *
+ * A part that has none of the names isn't compared with its own, and a fault of its values is not seen. When the call is refused the handle is
+ * closed, as of lanes_parts_take.
+ * Refused, in this order: LANES_SYNTAX when the name is no text; of a part that has one of the names, or that is no file, LANES_DAMAGED when its
+ * own name is that of other bytes, and the first fault of the bytes; LANES_SCHEMA_DIFFERS, LANES_CONFLICT and LANES_FULL when it does not go
+ * with those before it. */
+uint8_t lanes_skim_take(lanes_skim *skim, uint32_t origin, uint32_t number, uint32_t count, const uint8_t *name, size_t name_length,
+                        const uint8_t *bytes, size_t bytes_length, lanes_place *place);
+
+/* Opens what was read as a table, and closes its handle. A load of these names is answered from it, by lanes_table_bring, as from all that the
+ * parts hold together. *batches is how many batches the parts have; one that is in two parts counts twice. If they and those of the load are
+ * more than 1,048,576, take the parts by lanes_parts_take instead. What the table's handle had is closed when 0 is answered.
+ *
+ * Refused: LANES_NOT_OPEN when no part was taken. */
+uint8_t lanes_skim_open(lanes_skim *skim, lanes_table *table, uint64_t *batches, lanes_place *place);
+
+/* Closes a handle of what was read. Closing a closed one does nothing. */
+void lanes_skim_close(lanes_skim *skim);
+
+/* Answers whether a part with these bytes may have a batch of a name that the table has; only the names of its batches are read. It has none if
+ * false is answered. True is answered, too, when the bytes are no part, the handle is closed, or memory runs out. A change that brings the
+ * table's batches rests on such parts: have them on the disk before its own part has its name. */
+bool lanes_table_meets(lanes_table *table, const uint8_t *bytes, size_t bytes_length);
+
+/* Makes the part of an offer, given what the parts of a folder hold together, which the table has: the file of those batches of the offer that the
+ * table does not have, and of all deletions of the offer. A file is an offer too. *batches is how many batches these are.
+ *
+ * Gives: the part, of no bytes if the offer brings nothing new.
+ * Refused, in this order: LANES_NOT_OPEN; the first fault of the offer; LANES_SCHEMA_DIFFERS; LANES_CONFLICT with the least batch that has two
+ * lists of rows; LANES_FULL. */
+uint8_t lanes_table_bring(lanes_table *table, const uint8_t *offer, size_t offer_length, uint64_t *batches, uint8_t *out, size_t room,
+                          size_t *length, lanes_place *place);
+
 /* Gives the name that a part with these bytes has: the first 32 hexadecimal digits of their SHA-512, and ".lanes". A file of another name
  * than its bytes have is damaged.
  *

@@ -9,11 +9,11 @@ from typing import TYPE_CHECKING, Any, Callable, Iterable, Mapping, NamedTuple, 
 
 from . import arguments, calls, explaining, folder_driver, part_folder, resting
 from .answer import Answer
-from .batch_name import GivenName
+from .batch_name import BatchName, GivenName, name_of
 from .column_types import ColumnTypes
 from .errors import Busy, Damaged, Refused
-from .holdings import Holdings
 from .partial_answers import Partial
+from .skims import Skim
 from .streams import ArrowStream
 from .table import Csv, Table
 from .waiting import Wait
@@ -28,6 +28,9 @@ _MOST = 1_048_576
 #: What a look at a folder's parts finds.
 _Found = TypeVar("_Found")
 
+#: What takes parts, one after another.
+_Taken = TypeVar("_Taken", calls.Parts, Skim)
+
 #: The numbers of refusals that are made here.
 _FULL, _SCHEMA_DIFFERS, _DAMAGED = 3, 8, 45
 
@@ -38,6 +41,14 @@ class _Heads(NamedTuple):
 
     empty: Table
     batches: int
+
+
+class _Basis(NamedTuple):
+    """What a change is made of: a table that answers it as all parts together do, the names of these, and those on which the change rests."""
+
+    held: Table
+    names: list[str]
+    relied: list[str]
 
 
 class Folder:
@@ -140,27 +151,27 @@ class Folder:
         batch: Optional[GivenName] = None,
         progress: Optional[Progress] = None,
     ) -> int:
-        """Adds rows, as `Table.import_csv` does; how many batches are new. Without `batch` only the smallest part is read. A load that is sent
-        again under its name adds no rows, and is on the disk afterwards. If the folder has some of its batches, these are on the disk before the
-        others are put.
+        """Adds rows, as `Table.import_csv` does; how many batches are new. Without `batch` only the smallest part is read, and with it the values
+        of those parts alone that have a batch of such a name. A load that is sent again under its name adds no rows, and is on the disk
+        afterwards. If the folder has some of its batches, these are on the disk before the others are put.
 
         Raises:
             Refused: a fault of the text or of the name; `Conflict`; `Full`.
             OSError: a part that has one of its batches can't be synced, and nothing is put.
         """
-        return self._add(lambda empty: empty.import_csv(csv, heading=heading, batch=batch, progress=progress), batch is not None)
+        return self._add(lambda empty: empty.import_csv(csv, heading=heading, batch=batch, progress=progress), batch)
 
     def import_columns(self, columns: Mapping[str, Any], *, batch: Optional[GivenName] = None, progress: Optional[Progress] = None) -> int:
         """Adds rows of arrays, as `Table.import_columns` does; how many batches are new."""
-        return self._add(lambda empty: empty.import_columns(columns, batch=batch, progress=progress), batch is not None)
+        return self._add(lambda empty: empty.import_columns(columns, batch=batch, progress=progress), batch)
 
     def import_frame(self, frame: Any, *, batch: Optional[GivenName] = None, progress: Optional[Progress] = None) -> int:
         """Adds the rows of a frame of pandas, as `Table.import_frame` does; how many batches are new."""
-        return self._add(lambda empty: empty.import_frame(frame, batch=batch, progress=progress), batch is not None)
+        return self._add(lambda empty: empty.import_frame(frame, batch=batch, progress=progress), batch)
 
     def import_arrow(self, data: Any, *, batch: Optional[GivenName] = None, progress: Optional[Progress] = None) -> int:
         """Adds the rows of Arrow's stream, as `Table.import_arrow` does; how many batches are new."""
-        return self._add(lambda empty: empty.import_arrow(data, batch=batch, progress=progress), batch is not None)
+        return self._add(lambda empty: empty.import_arrow(data, batch=batch, progress=progress), batch)
 
     def delete(self, condition: str) -> int:
         """Deletes the rows at which a condition is true; how many there were. Rows that come meanwhile aren't deleted. Deletions of such rows
@@ -170,10 +181,10 @@ class Folder:
             Refused: a fault of the condition.
             OSError: such a deletion can't be synced, and nothing is put.
         """
-        held, names = self._joined()
+        held, names, deleting = self._basis(resting.has_deletions)
         rows, part = held._delete_part(condition)
         if rows:
-            part_folder.keep_or_raise(self.path, resting.with_deletions(self.path, names, held, condition))
+            part_folder.keep_or_raise(self.path, resting.with_deletions(self.path, deleting, held, condition))
             part_folder.put(self.path, part)
         else:
             part_folder.keep(self.path, names)
@@ -200,7 +211,7 @@ class Folder:
             if table.delete_rows(batch, first, last, held=True) is table:
                 return False
             empty = _empty_of(table)
-        self._put(empty.delete_rows(batch, first, last))
+        part_folder.put(self.path, empty.delete_rows(batch, first, last).to_bytes())
         return True
 
     def apply(self, *offers: Union[bytes, bytearray, memoryview]) -> int:
@@ -211,15 +222,17 @@ class Folder:
             Refused: a fault of an offer, `SchemaDiffers`, `Conflict` or `Full`.
             OSError: a part that has one of the batches can't be synced, and nothing is put.
         """
-        held, names = self._joined()
-        after, own = held, _empty_of(held)
-        for offer in offers:
-            after, own = after.apply(offer), own.apply(offer)
-        if after != held:
-            self._put_lacked(own, held, names)
-        elif own != _empty_of(held):
-            part_folder.keep(self.path, names)
-        return after.check()[0] - held.check()[0]
+        empty = self._heads().empty
+        own, refusal = _all_of(offers, empty)
+        basis = self._basis(own._asked().meets)
+        if refusal is not None:
+            raise refusal
+        batches, part = basis.held._bring(own._file)
+        if part:
+            self._put_resting(part, basis)
+        elif own != empty:
+            part_folder.keep(self.path, basis.names)
+        return batches
 
     def pack(self, *, everything: bool = False) -> Tuple[int, int]:
         """Joins small parts, or all of them, into one and removes them; how many parts there are then, and how many were removed. It also
@@ -335,14 +348,52 @@ class Folder:
             FileNotFoundError: one is gone.
         """
         parts = calls.Parts()
+        self._read(names, parts.take)
+        return parts
+
+    def _read(self, names: list[str], take: Callable[[str, bytes], None]) -> None:
+        """Reads the parts of these names, one after another, each of which is taken.
+
+        Raises:
+            FileNotFoundError: one is gone.
+        """
         for name in names:
             data = part_folder.read_part(self.path, name)
             try:
                 with explaining.of_input(data):
-                    parts.take(name, data)
+                    take(name, data)
             except Refused as refusal:
                 raise self._of_part(refusal, name) from None
-        return parts
+
+    def _gathered(self, names: list[str], taken: _Taken, rests_on: Callable[[bytes], bool]) -> Tuple[_Taken, list[str]]:
+        """What is made of the parts of these names, once each of them is taken; and the names of those on which a change rests.
+
+        Raises:
+            FileNotFoundError: one is gone.
+        """
+        relied: list[str] = []
+
+        def take(name: str, data: bytes) -> None:
+            taken.take(name, data)
+            if rests_on(data):
+                relied.append(name)
+
+        self._read(names, take)
+        return taken, relied
+
+    def _basis(self, rests_on: Callable[[bytes], bool]) -> _Basis:
+        """What all parts hold together, for a change that rests on some of them."""
+        (parts, relied), names = self._looked(lambda names: self._gathered(names, calls.Parts(), rests_on))
+        return _Basis(Table._of_parts(parts), names, relied)
+
+    def _basis_of_load(self, load: Table, first: BatchName) -> _Basis:
+        """What answers a load under given names as all parts do: their deletions, and all that those hold which have one of the names. If there
+        are too many batches it is what all parts hold."""
+        opened = load._asked()
+        count = opened.batches()
+        (skim, relied), names = self._looked(lambda names: self._gathered(names, Skim(first, count), opened.meets))
+        held, batches = skim.opened()
+        return _Basis(Table._of_opened(held, 0), names, relied) if batches + count <= _MOST else self._basis(opened.meets)
 
     def _of_part(self, refusal: Refused, name: str) -> Exception:
         """A refusal that is said of the part."""
@@ -380,44 +431,41 @@ class Folder:
         self._taken([min(sizes)[1]])
         return _Heads(Table(empty), batches)
 
-    def _add(self, load_of: Callable[[Table], Table], is_named: bool) -> int:
+    def _add(self, load_of: Callable[[Table], Table], batch: Optional[GivenName]) -> int:
         """Puts the batches of a load into the folder, which is made of the empty table; how many are new."""
-        if is_named:
-            return self._add_named(load_of)
         heads = self._heads()
         load = load_of(heads.empty)
+        if batch is not None:
+            return self._add_named(load, name_of(batch))
         batches = load.check()[0]
         if heads.batches + batches > _MOST:
             raise calls.refused(_FULL)
         if batches:
-            self._put(load)
+            part_folder.put(self.path, load.to_bytes())
         return batches
 
-    def _add_named(self, load_of: Callable[[Table], Table]) -> int:
+    def _add_named(self, load: Table, first: BatchName) -> int:
         """The same of a load under a given name: the batches that the folder does not have, if no other such load came meanwhile."""
-        held, names = self._joined()
-        load = load_of(_empty_of(held))
-        new = held.merge(load).check()[0] - held.check()[0]
-        if new:
-            self._put_lacked(load, held, names)
-        elif load.check()[0]:
-            self._put(load)  # it may be that what was put before is not on the disk
-        return new
+        basis = self._basis_of_load(load, first)
+        batches, part = basis.held._bring(load._file)
+        if part:
+            self._put_resting(part, basis)
+        else:
+            part_folder.keep(self.path, basis.relied)
+        return batches
 
-    def _put_lacked(self, own: Table, held: Table, names: list[str]) -> None:
-        """Puts what a table has and the parts of these names do not. Before that, those that have another batch of it are kept.
+    def _put_resting(self, part: bytes, basis: _Basis) -> None:
+        """Puts the part of a change, if it goes with all parts that are there. Before that, those on which it rests are kept.
 
         Raises:
             Refused: `Conflict`.
             Busy: others have had the folder for ten seconds, or parts have come for so long.
             OSError: a part can't be synced, and nothing is put.
         """
-        part = _lacked(own, held)
-        rest = Holdings.of(own).batches.keys() - Holdings.of(part).batches.keys()
-        part_folder.keep_or_raise(self.path, resting.with_batches(self.path, names, rest))
-        self._put_beside(part, names)
+        part_folder.keep_or_raise(self.path, basis.relied)
+        self._put_beside(part, basis.names)
 
-    def _put_beside(self, part: Table, names: list[str]) -> None:
+    def _put_beside(self, part: bytes, names: list[str]) -> None:
         """Puts a part that goes with the parts of these names, if no others are there. If one came since, it is looked at, and the part is
         put anew: of two parts that are put at once, and have other rows under one name, one is refused. If the file system has no lock of
         the folder it goes without, and readers find the two.
@@ -430,21 +478,18 @@ class Folder:
         def look(found: list[str]) -> None:
             since = [name for name in found if name not in names]
             if since:
-                part.merge(Table._of_parts(self._taken(since)))
+                Table(part).merge(Table._of_parts(self._taken(since)))
 
-        data, wait = part.to_bytes(), self._wait()
+        wait = self._wait()
         try:
-            while not part_folder.put_beside(self.path, data, names):
+            while not part_folder.put_beside(self.path, part, names):
                 _, names = self._looked(look)
                 wait.again()
         except OSError as fault:
             if fault.errno != errno.ENOLCK:
                 raise
             self._looked(look)
-            self._put(part)
-
-    def _put(self, part: Table) -> None:
-        part_folder.put(self.path, part.to_bytes())
+            part_folder.put(self.path, part)
 
     def _sized(self) -> list[Tuple[int, str]]:
         """The parts with their sizes, the smallest first."""
@@ -478,6 +523,12 @@ def _empty_of(table: Table) -> Table:
     return Table.create(table.name, table.columns)
 
 
-def _lacked(own: Table, held: Table) -> Table:
-    """The batches of a table that another one does not have, and all its deletions."""
-    return _empty_of(held).apply(own.offer(held.summary()))
+def _all_of(offers: Iterable[Union[bytes, bytearray, memoryview]], empty: Table) -> Tuple[Table, Optional[Refused]]:
+    """What offers have together, or nothing and why they are refused."""
+    own = empty
+    try:
+        for offer in offers:
+            own = own.apply(offer)
+    except Refused as refusal:
+        return empty, refusal
+    return own, None

@@ -1,12 +1,12 @@
-"""What a change of a folder rests on: the parts that have a batch or a deletion which the change does not put anew."""
+"""What a delete in a folder rests on: the parts that have deleted a row which the delete finds, and does not delete anew."""
 
 from __future__ import annotations
 
 import contextlib
 import struct
-from typing import Callable, Dict, Iterable, Iterator, List, Tuple
+from typing import Dict, Iterable, Iterator, List, Tuple
 
-from . import calls, part_folder
+from . import part_folder
 from .errors import Refused
 from .holdings import Holdings
 from .table import Table
@@ -18,50 +18,36 @@ _Range = Tuple[int, int]
 _NO_DELETIONS = bytes(8)
 
 
-def with_batches(folder: str, names: Iterable[str], batches: Iterable[bytes]) -> List[str]:
-    """Those of the parts that have one of these batches, whose names are as in a file.
-
-    Raises:
-        OSError: a part can't be read.
-    """
-    wanted = {*batches}
-    return _chosen(folder, names, lambda data: any(name in data for name in wanted), lambda held: not wanted.isdisjoint(held.batches)) if wanted else []
+def has_deletions(part: bytes) -> bool:
+    """Whether a part has deletions."""
+    return not part.endswith(_NO_DELETIONS)
 
 
 def with_deletions(folder: str, names: Iterable[str], held: Table, condition: str) -> List[str]:
-    """Those of the parts that have deleted a row at which a condition is true. The table is what all parts hold together.
+    """Those of the parts that have deleted a row at which a condition is true. All that have deletions are among them. The table is what all parts
+    hold together. A part that is gone is left out: what took it away is on the disk. One that has other bytes now is not: it is found so when
+    it is kept.
 
     Raises:
         OSError: a part can't be read.
     """
-    if not held.check()[1]:
-        return []
-    rows = _rows_with_deletions(held, condition)
-
-    def has_deleted(part: Holdings) -> bool:
-        ranges = [*part.batches.items(), *part.foreign.items()]
-        return any(_meet(_ranges_of(data), rows[name]) for name, data in ranges if name in rows)
-
-    return _chosen(folder, names, lambda data: not data.endswith(_NO_DELETIONS), has_deleted) if rows else []
-
-
-def _chosen(folder: str, names: Iterable[str], may_be: Callable[[bytes], bool], is_chosen: Callable[[Holdings], bool]) -> List[str]:
-    """The parts of which something is true. What is asked of their bytes costs less, and is true of more of them. A part that is gone is left
-    out: what took it away is on the disk. One that has other bytes now is not: it is found so when it is kept."""
+    named = [*names]
+    rows = _rows_with_deletions(held, condition) if named else {}
     chosen = []
-    for name in names:
+    for name in named if rows else ():
         with contextlib.suppress(FileNotFoundError):
-            data = part_folder.read_part(folder, name)
-            if may_be(data) and _is_chosen(data, is_chosen):
+            if _has_deleted(part_folder.read_part(folder, name), rows):
                 chosen.append(name)
     return chosen
 
 
-def _is_chosen(data: bytes, is_chosen: Callable[[Holdings], bool]) -> bool:
+def _has_deleted(part: bytes, rows: Dict[bytes, List[_Range]]) -> bool:
     try:
-        return is_chosen(Holdings.of(Table(data)))
+        held = Holdings.of(Table(part))
     except Refused:
         return True
+    ranges = [*held.batches.items(), *held.foreign.items()]
+    return any(_meet(_ranges_of(data), rows[name]) for name, data in ranges if name in rows)
 
 
 def _rows_with_deletions(held: Table, condition: str) -> Dict[bytes, List[_Range]]:

@@ -102,7 +102,7 @@ class Table:
     made. Tables are equal if they hold the same, and then their bytes are the same. `len` is the number of live rows.
     """
 
-    __slots__ = ("_held", "_opened", "_read_schema", "__weakref__")
+    __slots__ = ("_held", "_opened", "_read_schema", "_room", "__weakref__")
 
     def __init__(self, file: calls.Input) -> None:
         if not isinstance(file, (bytes, calls.Mapped)):
@@ -110,6 +110,7 @@ class Table:
         self._held: Optional[calls.Input] = file
         self._opened: Optional[calls.Opened] = None
         self._read_schema: Optional[Schema] = None
+        self._room = _ROOM
 
     @classmethod
     def create(cls: Type[_Self], name: str, columns: ColumnTypes) -> _Self:
@@ -226,12 +227,16 @@ class Table:
         return table
 
     @classmethod
+    def _of_opened(cls: Type[_Self], opened: calls.Opened, length: int) -> _Self:
+        """The table of what is open. Its file, which has some such number of bytes, is made when it is asked for."""
+        table = cls(b"")
+        table._held, table._opened, table._room = None, opened, length + _ROOM
+        return table
+
+    @classmethod
     def _of_parts(cls: Type[_Self], parts: calls.Parts) -> _Self:
         """The table of what parts of a folder hold together."""
-        opened = parts.opened()
-        table = cls(opened.file(parts.length + _ROOM))
-        table._opened = opened
-        return table
+        return cls._of_opened(parts.opened(), parts.length)
 
     def to_bytes(self) -> bytes:
         """The canonical file."""
@@ -314,7 +319,7 @@ class Table:
         text = arguments.text_of("sql", sql)
         opened = self._asked()
         with explaining.explained(self, calls.Given(calls.QUERY, text)):
-            return Partial(opened.partial(self._length() + _ROOM, text))
+            return Partial(opened.partial(self._room if self._held is None else self._length() + _ROOM, text))
 
     def queries(self, sqls: Iterable[str]) -> list[Answer]:
         """The answers of several queries, in order.
@@ -495,6 +500,12 @@ class Table:
             rows, part = self._asked().delete_part(_ROOM, text)
         return rows, bytes(part)
 
+    def _bring(self, offer: calls.Input) -> tuple[int, bytes]:
+        """How many batches an offer brings, and the file of what it brings; no bytes if that is nothing."""
+        with explaining.of_input(offer):
+            batches, part = self._asked().bring(calls.length_of(offer) + _ROOM, offer)
+        return batches, bytes(part)
+
     def delete_rows(self: _Self, batch: GivenName, first: int, last: Optional[int] = None, *, held: bool = False) -> _Self:
         """The table without the rows of a batch from one ordinal to another, both included; without `last` one row. Ordinals are from 0
         to 65,535, as `dump(names=True)` has them. Rows that the table doesn't have yet are deleted when they come.
@@ -592,9 +603,11 @@ class Table:
         Raises:
             ValueError: the table is closed.
         """
-        held = self._held
+        held, opened = self._held, self._opened
         if held is None:
-            raise ValueError("this table is closed")
+            if opened is None:
+                raise ValueError("this table is closed")
+            held = self._held = opened.file(self._room)
         return held
 
     def _made(self: _Self, file: calls.Input) -> _Self:
@@ -619,7 +632,9 @@ class Table:
         """The schema, which the front of the file has. The file is judged already, or a call made it."""
         schema = self._read_schema
         if schema is None:
-            schema = self._read_schema = Schema.of(bytes(self._view()[:_FRONT]))
+            opened = self._opened if self._held is None else None
+            front = bytes(self._view()[:_FRONT]) if opened is None else calls.given(calls.CREATE, _ROOM, opened.words())
+            schema = self._read_schema = Schema.of(front)
         return schema
 
     def _words(self) -> bytes:
@@ -664,7 +679,7 @@ class Table:
 
     def __repr__(self) -> str:
         kind = f"{'lanes.' * (type(self) is Table)}{type(self).__name__}"
-        return f"<{kind} {self.name} of {self._length()} bytes>" if self._held is not None else f"<{kind}, closed>"
+        return f"<{kind} {self.name} of {self._length()} bytes>" if self._held is not None or self._opened else f"<{kind}, closed>"
 
 
 def _table_of(other: object) -> Table:

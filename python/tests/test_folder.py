@@ -17,7 +17,7 @@ import tempfile
 import threading
 import unittest
 import unittest.mock
-from typing import Callable, Iterator
+from typing import Any, Callable, Iterator
 
 import lanes
 from folders import InFolder, Syncs, fresh
@@ -57,7 +57,7 @@ class Calls(InFolder):
 
     def test_loads_without_a_name_read_no_other_rows(self) -> None:
         self.folder.import_csv("1,1\n" * 1000, heading=False, batch="1.1")
-        with unittest.mock.patch.object(Folder, "_joined", side_effect=AssertionError):
+        with unittest.mock.patch.object(Folder, "_gathered", side_effect=AssertionError):
             self.assertEqual(self.folder.import_csv("2,2\n" * 70_000, heading=False), 2)
             self.assertEqual(self.folder.import_csv("", heading=False), 0)
         self.assertEqual(self.folder.query("SELECT COUNT(*),SUM(A) FROM T"), [(71_000, 141_000)])
@@ -750,15 +750,15 @@ class AtOnce(InFolder):
 
     def test_what_came_since_a_pull_looked_is_looked_at_again(self) -> None:
         one, other = (self.empty.import_csv(f"{value},1\n", heading=False, batch="7.7") for value in (1, 2))
-        joined = Folder._joined
+        gathered = Folder._gathered
 
-        def late(folder: Folder) -> object:
-            found = joined(folder)
+        def late(folder: Folder, *words: Any) -> object:
+            found = gathered(folder, *words)
             part_folder.put(self.path, one.to_bytes())
             return found
 
         for act in lambda: self.folder.apply(other.to_bytes()), lambda: self.folder.import_csv("2,1\n", heading=False, batch="7.7"):
-            with unittest.mock.patch.object(Folder, "_joined", late), self.assertRaises(Refused) as caught:
+            with unittest.mock.patch.object(Folder, "_gathered", late), self.assertRaises(Refused) as caught:
                 act()
             self.assertEqual((caught.exception.name, caught.exception.place), ("Conflict", (7, 7)))
             self.assertEqual(self.folder.query("SELECT A FROM T GROUP BY A"), [(1,)])

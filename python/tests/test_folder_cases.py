@@ -12,7 +12,7 @@ import os
 import shutil
 import unittest
 import unittest.mock
-from typing import Callable, Dict, Iterator, List, NamedTuple, Tuple
+from typing import Any, Callable, Dict, Iterator, List, NamedTuple, Tuple
 
 from folders import InFolder
 from lanes import Folder, Refused, Table, part_folder
@@ -94,10 +94,10 @@ class Cases(InFolder):
     @contextlib.contextmanager
     def system(self, has_locks: bool, came: Came) -> Iterator[None]:
         """A file system with locks or without, to which parts come once a call has looked. No file is left open, and nothing is synced."""
-        joined, late = Folder._joined, [*came.parts]
+        gathered, late = Folder._gathered, [*came.parts]
 
-        def look(folder: Folder) -> object:
-            found = joined(folder)
+        def look(folder: Folder, *words: Any) -> object:
+            found = gathered(folder, *words)
             for table in late:
                 part_folder.put(self.path, table.to_bytes())
             late.clear()
@@ -105,7 +105,7 @@ class Cases(InFolder):
 
         flock = fcntl.flock if has_locks else unittest.mock.Mock(side_effect=OSError(errno.ENOLCK, "no locks"))
         before = len(os.listdir("/proc/self/fd"))
-        with unittest.mock.patch.object(os, "fsync"), unittest.mock.patch.object(fcntl, "flock", flock), unittest.mock.patch.object(Folder, "_joined", look):
+        with unittest.mock.patch.object(os, "fsync"), unittest.mock.patch.object(fcntl, "flock", flock), unittest.mock.patch.object(Folder, "_gathered", look):
             yield
         self.assertEqual((len(os.listdir("/proc/self/fd")), late), (before, []))
         self.assertFalse([name for name in os.listdir(self.path) if not name.endswith(".lanes")])

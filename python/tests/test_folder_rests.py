@@ -6,7 +6,7 @@ import os
 import shutil
 import unittest
 import unittest.mock
-from typing import Callable, List, NamedTuple
+from typing import Any, Callable, List, NamedTuple
 
 from folders import InFolder, Syncs
 from lanes import Folder, Table, part_folder
@@ -94,22 +94,22 @@ class Rests(InFolder):
             for module, call in (part_folder, "read_part"), (part_folder, "keep_or_raise"):
                 with self.subTest(change.name, call=call):
                     self.put_there(change)
-                    true, joined, packed = getattr(module, call), Folder._joined, []
+                    true, gathered, packed = getattr(module, call), Folder._gathered, []
 
                     def late(*words: object) -> object:
-                        if joins and not packed:
+                        if looks and not packed:
                             packed.append(words)
                             Folder(self.path).pack(everything=True)
                         return true(*words)
 
-                    joins: List[object] = []
+                    looks: List[object] = []
 
-                    def after(folder: Folder) -> object:
-                        found = joined(folder)
-                        joins.append(found)
+                    def after(folder: Folder, *words: Any) -> object:
+                        found = gathered(folder, *words)
+                        looks.append(found)
                         return found
 
-                    with unittest.mock.patch.object(module, call, late), unittest.mock.patch.object(Folder, "_joined", after):
+                    with unittest.mock.patch.object(module, call, late), unittest.mock.patch.object(Folder, "_gathered", after):
                         self.assertEqual(change.act(self.folder), change.answer)
                     whole = self.empty.merge(*change.there)
                     self.assertEqual(whole.merge(self.folder.read()), self.folder.read())

@@ -22,5 +22,5 @@ pub use reading::{Read, read_folder, read_named};
 pub use reliance::Reliance;
 pub use relying::{keep_and_put, keep_and_put_judged};
 pub use replacing::{Replaced, names_for};
-pub use skimming::{Skimmed, skim_folder};
+pub use skimming::{Skimmed, skim_folder, skim_more};
 pub use sweeping::sweep;

@@ -47,7 +47,7 @@ impl Reliance {
     }
 
     /// Whether it is on a part with these bytes. If they are no file it may be, too.
-    fn is_on(&self, alloc: Global, bytes: &[u8]) -> Result<bool, Refusal>
+    pub fn is_on(&self, alloc: Global, bytes: &[u8]) -> Result<bool, Refusal>
         ensures none { IfOk result (λ is. is ≡ false → (item : Item) → IsIn item bytes.now → ReliesOn self.now item → ⊥) }
         ensures refused { IfErr result (λ e. e ≡ Memory) }
     {

@@ -37,8 +37,10 @@ struct Skimming {
     relied: Vec<String>,
 }
 
-/// What was read of parts, with what is read of one more.
-fn skim_more(
+/// What was read of parts, if there were any, with what is read of one more.
+///
+/// Refused are what [`Skim::new`] refuses of the first part, and what [`Skim::with_part`] refuses of a further one.
+pub fn skim_more(
     alloc: Global,
     had: Option<Skim>,
     name: &str,

@@ -23,3 +23,5 @@ pub mod PartsTaken
 pub mod DeleteParts
 pub mod AnswerHandleFields
 pub mod AnswerGivings
+pub mod SkimHandleFields
+pub mod Bringings

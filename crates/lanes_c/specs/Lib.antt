@@ -1,6 +1,7 @@
 pub mod AnswerCells
 pub mod AnswerColumns
 pub mod AnswerHandles
+pub mod Bringing
 pub mod Calls
 pub mod ColumnCalls
 pub mod Coverage
@@ -21,6 +22,8 @@ pub mod PartsRead
 pub mod Queries
 pub mod Rooms
 pub mod Sentences
+pub mod SkimHandles
+pub mod Skimming
 pub mod Spreading
 pub mod TableChanges
 pub mod TableReading

@@ -5,6 +5,7 @@
 mod answer_cells;
 mod answer_columns;
 mod answer_handle;
+mod bringing;
 mod changing;
 mod column_import;
 mod columns;
@@ -33,6 +34,8 @@ mod refused_rows;
 mod room;
 mod sentences;
 mod shared;
+mod skim_handle;
+mod skimming;
 mod spreading;
 mod table_changes;
 mod table_reading;
@@ -47,6 +50,7 @@ pub use answer_columns::{
     lanes_answer_wide,
 };
 pub use answer_handle::KeptAnswer;
+pub use bringing::{lanes_table_bring, lanes_table_meets};
 pub use changing::{lanes_create, lanes_delete, lanes_forget, lanes_import};
 pub use column_import::lanes_table_import_columns;
 pub use columns::{lanes_columns, lanes_columns_between, lanes_schema};
@@ -68,6 +72,8 @@ pub use parts_turns::{lanes_folder_part, lanes_parts_forget, lanes_parts_pack};
 pub use queries::lanes_queries;
 pub use reading::{lanes_check, lanes_dump, lanes_query};
 pub use sentences::{Refused, lanes_explain};
+pub use skim_handle::FolderSkim;
+pub use skimming::{lanes_skim_close, lanes_skim_open, lanes_skim_take};
 pub use spreading::lanes_spread;
 pub use table_changes::{
     lanes_table_apply, lanes_table_delete, lanes_table_delete_rows, lanes_table_forget,
