@@ -750,7 +750,7 @@ uint8_t lanes_table_delete_part(lanes_table *table, const uint8_t *condition, si
 void lanes_parts_close(lanes_parts *parts);
 
 /* What a load under given names is answered from: of a part that has a batch of such a name all that it holds, and of any other its deletions
- * alone, whose values are passed over. So a load costs little where the folder is large. A handle of it is as one of parts: set it to
+ * alone, whose values are passed over. So a load costs little even if the folder is large. A handle of it is as one of parts: set it to
  * LANES_NO_SKIM before its first use, don't copy it, give it to one call at a time, close it, and leave it on its thread.
  *
  *     lanes_skim skim = LANES_NO_SKIM;
@@ -823,7 +823,7 @@ size_t lanes_refusal(uint8_t number, uint8_t *out, size_t room);
 size_t lanes_sentence(uint8_t number, const lanes_place *place, uint8_t *out, size_t room);
 
 /* What the text is that lanes_explain is given: nothing; the query or the condition; the names of columns; the rows as comma-separated values;
- * the words of a table that is to be made, or that has come where another table is expected; the file or the message, of which the first
+ * the words of a table that is to be made, or that came in the place of another one; the file or the message, of which the first
  * 16 bytes are enough. */
 enum {
     LANES_OF_NOTHING = 0,

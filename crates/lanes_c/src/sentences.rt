@@ -186,7 +186,7 @@ fn said_on_table(
     }
 }
 
-/// The sentence of a table of these words where another one is wanted, which the input of a name holds.
+/// The sentence of a table of these words in the place of another one, which the input of a name holds.
 fn said_on_tables(
     alloc: Global,
     words: &[u8],
