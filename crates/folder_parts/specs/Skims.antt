@@ -64,8 +64,8 @@ abbrev pub SkimsPart : {X : Type 0} → (X → Replica) → (X → ℕ) → Resu
 SkimsPart view batches (Ok x) first count whole = IsEnough first count (view x) (batches x) whole
 SkimsPart view batches (Err fault) first count whole = IsUnreadPart fault
 
--- A replica and a number of batches came of a part that is whole, with those before it, where all of them hold a replica. They are enough of
--- it; or the part was not read, or memory ran out.
+-- A replica and a number of batches came of a part that is whole, with those before it. They are enough of the replica that all of them hold;
+-- or the part was not read, or memory ran out.
 abbrev pub SkimsTo : Result (Replica × ℕ) PartFault → BatchName → ℕ → Replica → Type 0
 SkimsTo result first count whole = SkimsPart {X = Replica × ℕ} (λ s. s.0) (λ s. s.1) result first count whole
 
