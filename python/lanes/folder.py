@@ -13,9 +13,9 @@ from .batch_name import BatchName, GivenName, name_of
 from .column_types import ColumnTypes
 from .errors import Busy, Damaged, Refused
 from .partial_answers import Partial
-from .skims import Skim
 from .streams import ArrowStream
 from .table import Csv, Table
+from .taken_parts import Parts, Skim
 from .waiting import Wait
 
 if TYPE_CHECKING:
@@ -29,7 +29,7 @@ _MOST = 1_048_576
 _Found = TypeVar("_Found")
 
 #: What takes parts, one after another.
-_Taken = TypeVar("_Taken", calls.Parts, Skim)
+_Taken = TypeVar("_Taken", Parts, Skim)
 
 #: The numbers of refusals that are made here.
 _FULL, _SCHEMA_DIFFERS, _DAMAGED = 3, 8, 45
@@ -195,7 +195,8 @@ class Folder:
         the smallest part whole.
 
         Args:
-            held: whether to delete only if the folder has the batch. Then all parts are read. So one deletion may be sent to all shards.
+            held: whether to delete only if the folder has the batch. Then the names of the batches of all parts are read, and what has this one is
+                judged. So one deletion may be sent to all shards.
 
         Returns:
             False if `held` is true and the folder does not have the batch, so that nothing is deleted; else True.
@@ -204,14 +205,10 @@ class Folder:
             Refused: `BadName`, `BadRange`; a part's first fault, or `SchemaDiffers` of a part.
             Damaged: a part has other bytes than its name says.
         """
-        if not arguments.flag_of("held", held):
-            empty = self._heads().empty
-        else:
-            table = self.read()
-            if table.delete_rows(batch, first, last, held=True) is table:
-                return False
-            empty = _empty_of(table)
-        part_folder.put(self.path, empty.delete_rows(batch, first, last).to_bytes())
+        part = self._heads().empty.delete_rows(batch, first, last)
+        if arguments.flag_of("held", held) and not self._holds(name_of(batch)):
+            return False
+        part_folder.put(self.path, part.to_bytes())
         return True
 
     def apply(self, *offers: Union[bytes, bytearray, memoryview]) -> int:
@@ -222,15 +219,17 @@ class Folder:
             Refused: a fault of an offer, `SchemaDiffers`, `Conflict` or `Full`.
             OSError: a part that has one of the batches can't be synced, and nothing is put.
         """
+        given = [arguments.bytes_of("offer", offer) for offer in offers]
         empty = self._heads().empty
-        own, refusal = _all_of(offers, empty)
-        basis = self._basis(own._asked().meets)
+        own, refusal = _all_of(given, empty._asked())
+        basis = self._basis(own.meets)
         if refusal is not None:
             raise refusal
-        batches, part = basis.held._bring(own._file)
+        whole = given[0] if len(given) == 1 else own.file(sum(map(len, given)))
+        batches, part = basis.held._bring(whole)
         if part:
             self._put_resting(part, basis)
-        elif own != empty:
+        elif bytes(own.file(0)) != empty.to_bytes():
             part_folder.keep(self.path, basis.names)
         return batches
 
@@ -341,13 +340,13 @@ class Folder:
                     raise
             wait.again()
 
-    def _taken(self, names: list[str]) -> calls.Parts:
+    def _taken(self, names: list[str]) -> Parts:
         """The parts of these names, read and joined.
 
         Raises:
             FileNotFoundError: one is gone.
         """
-        parts = calls.Parts()
+        parts = Parts()
         self._read(names, parts.take)
         return parts
 
@@ -383,7 +382,7 @@ class Folder:
 
     def _basis(self, rests_on: Callable[[bytes], bool]) -> _Basis:
         """What all parts hold together, for a change that rests on some of them."""
-        (parts, relied), names = self._looked(lambda names: self._gathered(names, calls.Parts(), rests_on))
+        (parts, relied), names = self._looked(lambda names: self._gathered(names, Parts(), rests_on))
         return _Basis(Table._of_parts(parts), names, relied)
 
     def _basis_of_load(self, load: Table, first: BatchName) -> _Basis:
@@ -454,6 +453,11 @@ class Folder:
             part_folder.keep(self.path, basis.relied)
         return batches
 
+    def _holds(self, batch: BatchName) -> bool:
+        """Whether a part has this batch."""
+        (skim, _), _ = self._looked(lambda names: self._gathered(names, Skim(batch, 1), lambda data: False))
+        return skim.opened()[0].batches() > 0
+
     def _put_resting(self, part: bytes, basis: _Basis) -> None:
         """Puts the part of a change, if it goes with all parts that are there. Before that, those on which it rests are kept.
 
@@ -518,17 +522,13 @@ class Folder:
         return Wait("parts of this folder come and go", self.path)
 
 
-def _empty_of(table: Table) -> Table:
-    """The empty table of the same columns."""
-    return Table.create(table.name, table.columns)
-
-
-def _all_of(offers: Iterable[Union[bytes, bytearray, memoryview]], empty: Table) -> Tuple[Table, Optional[Refused]]:
+def _all_of(offers: Iterable[bytes], empty: calls.Opened) -> Tuple[calls.Opened, Optional[Refused]]:
     """What offers have together, or nothing and why they are refused."""
     own = empty
     try:
         for offer in offers:
-            own = own.apply(offer)
+            with explaining.of_input(offer):
+                own = own.with_offer(offer)
     except Refused as refusal:
         return empty, refusal
     return own, None

@@ -24,6 +24,7 @@ if TYPE_CHECKING:
     from .columns import Columns
     from .folder import Folder
     from .pieces import Progress
+    from .taken_parts import Parts
 
 #: How much room an answer's text is given at first, and a file beside its inputs.
 _ROOM = 65_536
@@ -234,7 +235,7 @@ class Table:
         return table
 
     @classmethod
-    def _of_parts(cls: Type[_Self], parts: calls.Parts) -> _Self:
+    def _of_parts(cls: Type[_Self], parts: Parts) -> _Self:
         """The table of what parts of a folder hold together."""
         return cls._of_opened(parts.opened(), parts.length)
 

@@ -396,13 +396,16 @@ class OnTheDisk(InFolder):
         self.assertEqual(len(re.findall(r"unlink[^\n]*\.lanes", text)), 3)
         self.assertEqual(self.folder.parts(), [joined])
 
-    def test_a_load_that_comes_again_is_put_again_once_it_was_packed(self) -> None:
+    def test_of_a_load_that_comes_again_the_part_that_has_it_is_on_the_disk(self) -> None:
         self.folder.import_csv("1,1\n", heading=False, batch="1.1")
         self.folder.import_csv("2,2\n", heading=False, batch="1.2")
         self.folder.pack(everything=True)
-        self.assertEqual(self.folder.import_csv("1,1\n", heading=False, batch="1.1"), 0)
+        self.folder.import_csv("3,3\n", heading=False, batch="1.3")
+        (packed,) = (name for name in self.folder.parts() if len(Table.from_bytes(part_folder.read_part(self.path, name))) == 2)
+        synced = Syncs().of(lambda: self.assertEqual(self.folder.import_csv("1,1\n", heading=False, batch="1.1"), 0))
+        self.assertEqual(synced, [packed, "site"])
         self.only_parts(2)
-        self.assertEqual(len(self.folder.read()), 2)
+        self.assertEqual(len(self.folder.read()), 3)
 
     def test_a_pack_meanwhile_takes_nothing_from_an_answer(self) -> None:
         load = self.empty.import_csv("1,1\n", heading=False, batch="1.1")

@@ -117,11 +117,18 @@ class Told(InFolder):
     def test_a_conflict_of_two_parts_has_the_place_of_its_batch(self) -> None:
         for row in 1, 2:
             part_folder.put(self.path, self.empty.import_csv(f"{row},{row}\n", heading=False, batch="1.9").to_bytes())
-        for act in self.folder.read, lambda: self.folder.import_csv("3,3\n", heading=False, batch="2.2"):
+        offer = self.empty.import_csv("3,3\n", heading=False, batch="2.2").to_bytes()
+        for act in self.folder.read, lambda: self.folder.import_csv("1,1\n", heading=False, batch="1.9"), lambda: self.folder.apply(offer):
             with self.assertRaises(Refused) as caught:
                 act()
             self.assertEqual((caught.exception.name, caught.exception.place), ("Conflict", (1, 9)))
             self.assertIn("1.9", str(caught.exception))
+
+    def test_a_load_of_other_names_goes_on_while_two_parts_conflict(self) -> None:
+        for row in 1, 2:
+            part_folder.put(self.path, self.empty.import_csv(f"{row},{row}\n", heading=False, batch="1.9").to_bytes())
+        self.assertEqual(self.folder.import_csv("3,3\n", heading=False, batch="2.2"), 1)
+        self.assertEqual(len(self.folder.parts()), 4)
 
     def test_of_three_parts_the_one_that_can_not_be_synced_is_told(self) -> None:
         self.folder.import_csv("1,1\n", heading=False, batch="1.1")

@@ -8,9 +8,9 @@ import unittest.mock
 from typing import List, Tuple
 
 from folders import InFolder
-from lanes import Damaged, Refused, Table, calls, folder, part_folder
+from lanes import Damaged, Refused, Table, folder, part_folder
 from lanes.batch_name import BatchName
-from lanes.skims import Skim
+from lanes.taken_parts import Parts, Skim
 
 
 class Skims(InFolder):
@@ -102,7 +102,7 @@ class Skims(InFolder):
             self.assertEqual(kinds, [Skim])
             kinds.clear()
             self.assertEqual(self.folder.import_csv("4,4\n", heading=False, batch="1.4"), 1)
-        self.assertEqual(kinds, [Skim, calls.Parts])
+        self.assertEqual(kinds, [Skim, Parts])
         self.assertEqual(len(self.folder.read()), 4)
 
 
