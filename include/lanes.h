@@ -47,14 +47,16 @@ extern "C" {
  *                       first: the batch's origin; second: its number
  *   LANES_WRONG_ARITY   first: the row, from 0
  *   LANES_OUT_OF_TYPE   first: the row, from 0; second: the column, from 0
- *   LANES_BAD_CSV       first: the line, from 1; second: its field, from 1, or 0 for a wrong number of fields
+ *   LANES_BAD_CSV       first: the line, from 1; second: its field, from 1, or 0 for a wrong number of fields. Of lanes_import_in
+ *                       and lanes_table_import_in also first: 0; second: 1 for the separator, and 2 for the null's word
  *   LANES_LINE_TOO_LONG first: the line, from 1
  *   LANES_SYSTEM        first: the system's number for the reason, as errno has it, or 0
  *   each refusal of a query of lanes_queries
  *                       second: the query, from 0
  *   each refusal of a summary of lanes_finish_expected
  *                       second: the summary, from 1
- *   LANES_SYNTAX, LANES_NO_SUCH_COLUMN of the names of lanes_columns
+ *   LANES_SYNTAX, LANES_NO_SUCH_COLUMN of the names of lanes_columns and lanes_dump_where, and LANES_NO_SUCH_COLUMN of the columns of
+ *   lanes_import_in and lanes_table_import_in
  *                       second: 1
  *   LANES_TRUNCATED, LANES_BAD_ORDER, LANES_BAD_COUNT, LANES_BAD_WIDTH, LANES_BAD_TAG, LANES_BAD_MASK, LANES_BAD_DICTIONARY,
  *   LANES_BAD_CODE, LANES_BAD_RANGE, LANES_TRAILING_BYTES, LANES_NOT_CANONICAL, LANES_SYNTAX, LANES_NO_SUCH_COLUMN,
@@ -165,6 +167,19 @@ uint8_t lanes_queries(const uint8_t *file, size_t file_length, const uint8_t *sq
 uint8_t lanes_dump(const uint8_t *file, size_t file_length, bool has_names, uint8_t *out, size_t room, size_t *length,
                    lanes_place *place);
 
+/* Gives some of the live rows as comma-separated values, as lanes_dump gives all of them.
+ *
+ * names: the columns' names with one space between, in the order that is wanted; of length 0: all, in the table's order.
+ * condition: what follows WHERE; of length 0: every live row.
+ *
+ * Gives: a line of the columns' names, and a line for each row at which the condition is true. lanes_import takes it if all columns are
+ * there, and lanes_import_in takes it with their names as `columns`.
+ * Refused, in this order: the file's first fault; LANES_SYNTAX at the first byte of the names, and then of the condition, that is no
+ * UTF-8; the condition's LANES_SYNTAX, LANES_NUMBER_TOO_LARGE, LANES_TOO_DEEP; LANES_NO_SUCH_COLUMN at a byte of the names;
+ * LANES_NO_SUCH_COLUMN at a byte of the condition. place->second is 1 if the byte is one of the names, and otherwise 0. */
+uint8_t lanes_dump_where(const uint8_t *file, size_t file_length, const uint8_t *names, size_t names_length, const uint8_t *condition,
+                         size_t condition_length, bool has_names, uint8_t *out, size_t room, size_t *length, lanes_place *place);
+
 /* Imports rows of comma-separated values. With has_heading the first line names all columns, in any order. A field is a whole number,
  * in double quotes or not; an empty one, NULL and \N are nulls. Rows become batches of 65,536 rows, the last one shorter.
  *
@@ -180,6 +195,26 @@ uint8_t lanes_dump(const uint8_t *file, size_t file_length, bool has_names, uint
 uint8_t lanes_import(const uint8_t *file, size_t file_length, const uint8_t *csv, size_t csv_length, bool has_heading, uint32_t origin,
                      uint32_t number, const uint64_t *words, size_t words_count, uint8_t *out, size_t room, size_t *length,
                      lanes_place *place);
+
+/* Imports rows of comma-separated values that are written otherwise, as lanes_import in all else.
+ *
+ * separator: the byte between two fields, in the heading too; 0 is a comma. It is a character of ASCII, but no letter, no digit, no end
+ * of a line, and none of " - _ \.
+ * null_word: a word that is a null too, in double quotes or not, as "NA"; of length 0: none. The usual nulls stay.
+ * columns: what the fields of each line are, with a comma between each two words, as "SITE,-,HITS": the name of a column, or - for a field
+ * that is passed over. A column without a field is null. With has_heading the first line is then any line that is no row. Of length 0: the
+ * heading says it, or the fields are in the table's order.
+ * needs_ends: whether a last line without a line feed at its end is refused, since it may be cut off.
+ *
+ * Gives: what lanes_import gives.
+ * Refused, in this order: the file's first fault; LANES_BAD_CSV of line 0, which is of no line: place->second is 1 if the separator can't
+ * be one, and 2 if the null's word is not UTF-8; LANES_NO_SUCH_COLUMN at the byte of the first word of the columns that is no column's name,
+ * or one for the second time, and place->second is 1; LANES_BAD_CSV of a line, with place->second 0 if it is the last one and has no
+ * end; and what lanes_import refuses after the file's first fault. */
+uint8_t lanes_import_in(const uint8_t *file, size_t file_length, const uint8_t *csv, size_t csv_length, bool has_heading,
+                        uint8_t separator, const uint8_t *null_word, size_t null_word_length, const uint8_t *columns,
+                        size_t columns_length, bool needs_ends, uint32_t origin, uint32_t number, const uint64_t *words,
+                        size_t words_count, uint8_t *out, size_t room, size_t *length, lanes_place *place);
 
 /* Deletes the rows at which a condition is true: what comes after WHERE in a query.
  *
@@ -470,6 +505,14 @@ uint8_t lanes_spread(lanes_table *table, size_t *ends, size_t ends_room, uint8_t
  * Refused, in this order: LANES_NOT_OPEN when the handle is closed; what lanes_import refuses after the file's first fault. */
 uint8_t lanes_table_import(lanes_table *table, const uint8_t *csv, size_t csv_length, bool has_heading, uint32_t origin, uint32_t number,
                            const uint64_t *words, size_t words_count, lanes_place *place);
+
+/* Imports rows of comma-separated values that are written otherwise, as lanes_import_in.
+ *
+ * Refused, in this order: LANES_NOT_OPEN when the handle is closed; what lanes_import_in refuses after the file's first fault. */
+uint8_t lanes_table_import_in(lanes_table *table, const uint8_t *csv, size_t csv_length, bool has_heading, uint8_t separator,
+                              const uint8_t *null_word, size_t null_word_length, const uint8_t *columns, size_t columns_length,
+                              bool needs_ends, uint32_t origin, uint32_t number, const uint64_t *words, size_t words_count,
+                              lanes_place *place);
 
 /* Imports rows of columns: the mirror of lanes_columns. So what that gives of all columns of a table is what this takes.
  *

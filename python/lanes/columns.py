@@ -45,7 +45,7 @@ class Selection:
 
     def __init__(self, table: Table, columns: Optional[Iterable[str]], where: str, between: Optional[Tuple[int, int]] = None) -> None:
         kinds = table.columns
-        names = list(kinds) if columns is None else _names_of(columns, table)
+        names = list(kinds) if columns is None else names_of(columns, table)
         self._opened, self._condition, self._between = table._asked(), arguments.text_of("where", where), between
         with explaining.judged("where", self._condition, table):
             #: How many rows there are.
@@ -81,7 +81,7 @@ class Selection:
         return BITS[self.kinds[name]] // 8 + 1
 
 
-def _names_of(columns: Iterable[str], table: Table) -> list[str]:
+def names_of(columns: Iterable[str], table: Table) -> list[str]:
     """The columns that were named, as the table has them.
 
     Raises:

@@ -5,7 +5,7 @@ from __future__ import annotations
 import errno
 import html
 import os
-from typing import TYPE_CHECKING, Any, Callable, Iterable, Mapping, NamedTuple, Optional, Tuple, TypeVar, Union
+from typing import TYPE_CHECKING, Any, Callable, Iterable, Mapping, NamedTuple, Optional, Tuple, TypeVar, Union, overload
 
 from . import arguments, calls, explaining, folder_driver, part_folder, resting
 from .answer import Answer
@@ -14,7 +14,7 @@ from .column_types import ColumnTypes
 from .errors import Busy, Damaged, Refused
 from .partial_answers import Partial
 from .streams import ArrowStream
-from .table import Csv, Table
+from .table import Csv, Path, Table
 from .taken_parts import Parts, Skim
 from .waiting import Wait
 
@@ -143,6 +143,26 @@ class Folder:
         """What another replica does not have, by its summary."""
         return self.read().offer(summary)
 
+    @overload
+    def dump(self, names: bool = ..., *, where: Optional[str] = ..., columns: Optional[Iterable[str]] = ..., path: None = ...) -> str: ...
+
+    @overload
+    def dump(self, names: bool = ..., *, where: Optional[str] = ..., columns: Optional[Iterable[str]] = ..., path: Path) -> None: ...
+
+    def dump(
+        self,
+        names: bool = False,
+        *,
+        where: Optional[str] = None,
+        columns: Optional[Iterable[str]] = None,
+        path: Optional[Path] = None,
+    ) -> Optional[str]:
+        """The live rows as comma-separated values, as of `Table.dump`."""
+        table = self.read()
+        if path is None:
+            return table.dump(names, where=where, columns=columns)
+        return table.dump(names, where=where, columns=columns, path=path)
+
     def import_csv(
         self,
         csv: Csv,
@@ -150,6 +170,10 @@ class Folder:
         heading: bool = True,
         batch: Optional[GivenName] = None,
         progress: Optional[Progress] = None,
+        separator: str = ",",
+        null: str = "",
+        columns: Optional[Iterable[Optional[str]]] = None,
+        whole_lines: bool = False,
     ) -> int:
         """Adds rows, as `Table.import_csv` does; how many batches are new. Without `batch` only the smallest part is read, and with it the values
         of those parts alone that have a batch of such a name. A load that is sent again under its name adds no rows, and is on the disk
@@ -159,7 +183,13 @@ class Folder:
             Refused: a fault of the text or of the name; `Conflict`; `Full`.
             OSError: a part that has one of its batches can't be synced, and nothing is put.
         """
-        return self._add(lambda empty: empty.import_csv(csv, heading=heading, batch=batch, progress=progress), batch)
+
+        def added(empty: Table) -> Table:
+            return empty.import_csv(
+                csv, heading=heading, batch=batch, progress=progress, separator=separator, null=null, columns=columns, whole_lines=whole_lines
+            )
+
+        return self._add(added, batch)
 
     def import_columns(self, columns: Mapping[str, Any], *, batch: Optional[GivenName] = None, progress: Optional[Progress] = None) -> int:
         """Adds rows of arrays, as `Table.import_columns` does; how many batches are new."""

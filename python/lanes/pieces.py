@@ -12,6 +12,7 @@ from .batch_name import GREATEST, BatchName
 from .errors import Refused
 
 if TYPE_CHECKING:
+    from .dialects import Dialect
     from .table import Table
 
 #: The class of a table.
@@ -69,7 +70,7 @@ class _Piece(NamedTuple):
     bytes_read: int
 
 
-def with_text(table: _Table, text: bytes, has_heading: bool, batch: Optional[BatchName], progress: Optional[Progress]) -> _Table:
+def with_text(table: _Table, text: bytes, dialect: Dialect, batch: Optional[BatchName], progress: Optional[Progress]) -> _Table:
     """The table with the rows of a text.
 
     Raises:
@@ -77,17 +78,17 @@ def with_text(table: _Table, text: bytes, has_heading: bool, batch: Optional[Bat
     """
     from .offers import drawn_name
 
-    pieces = _pieces(text, has_heading, len(table.columns) == 1)
+    pieces = _pieces(text, dialect.has_heading, dialect.has_one_field(table))
     first, second = next(pieces, None), next(pieces, None)
     if first is None or second is None:
-        made = table._with_rows_of(text, has_heading, batch)
+        made = table._with_rows_of(text, dialect, batch)
         tell(progress, len(text), len(text))
         return made
     name = drawn_name(table, -(-text.count(b"\n") // BATCH) + 1) if batch is None else batch
     load = Load(table)
     for index, piece in enumerate(itertools.chain((first, second), pieces)):
         own = later(name, index * (AT_ONCE // BATCH))
-        load.add(_made_of(piece, text, load.empty, has_heading, own))
+        load.add(_made_of(piece, text, load.empty, dialect, own))
         tell(progress, piece.bytes_read, len(text))
     return load.into(table)
 
@@ -109,20 +110,20 @@ def tell(progress: Optional[Progress], done: int, whole: int) -> None:
         progress(done, whole)
 
 
-def _made_of(piece: _Piece, text: bytes, empty: Table, has_heading: bool, name: BatchName) -> Table:
+def _made_of(piece: _Piece, text: bytes, empty: Table, dialect: Dialect, name: BatchName) -> Table:
     """The table of a piece. The place of a refusal is a line of the whole text, and its sentence is that of the whole text.
 
     Raises:
         Refused: a fault of the piece.
     """
     try:
-        return empty._with_rows_of(piece.text, has_heading, name)
+        return empty._with_rows_of(piece.text, dialect, name)
     except Refused as refused:
         line, field = refused.args[2]
         if refused.name not in _OF_A_LINE:
             raise
         moved = calls.refused(refused.number, line + piece.lines_before, field)
-        raise calls.explained(moved, calls.Given(calls.ROWS, text, has_heading=has_heading), empty._words()) from None
+        raise calls.explained(moved, dialect.given(text), empty._words()) from None
 
 
 def _pieces(text: bytes, has_heading: bool, has_one_field: bool) -> Iterator[_Piece]:

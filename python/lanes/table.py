@@ -10,7 +10,7 @@ import re
 import secrets
 import stat
 import zlib
-from typing import IO, TYPE_CHECKING, Any, Iterable, Iterator, Mapping, NamedTuple, Optional, Type, TypeVar, Union
+from typing import IO, TYPE_CHECKING, Any, Iterable, Iterator, Mapping, NamedTuple, Optional, Type, TypeVar, Union, overload
 
 from . import arguments, calls, explaining, replacing
 from .answer import Answer, Value
@@ -22,6 +22,7 @@ from .streams import ArrowStream
 
 if TYPE_CHECKING:
     from .columns import Columns
+    from .dialects import Dialect
     from .folder import Folder
     from .pieces import Progress
     from .taken_parts import Parts
@@ -47,11 +48,11 @@ _SHARES = 65_536
 #: What the name of a table or a column is.
 _WORD = re.compile("[A-Za-z][A-Za-z0-9_]{0,63}")
 
-#: How many bytes a field of a dump has at most, with its comma, by its type; and both fields of a row's name.
-_DIGITS, _NAMED = {"TINYINT": 5, "SMALLINT": 7, "INTEGER": 12, "BIGINT": 21}, 30
-
 #: What is taken for bytes.
 _Bytes = Union[bytes, bytearray, memoryview]
+
+#: What is taken for a path.
+Path = Union[str, "os.PathLike[str]"]
 
 #: What is taken for comma-separated values: the text itself, a file that is open for reading, or a path object.
 Csv = Union[str, _Bytes, IO[str], IO[bytes], "os.PathLike[str]"]
@@ -331,12 +332,42 @@ class Table:
         """
         return [self.query(sql) for sql in arguments.several("sqls", "several texts", sqls)]
 
-    def dump(self, names: bool = False) -> str:
-        """The live rows as comma-separated values below a heading; with names the columns BATCH and ORDINAL come first."""
-        has_names = arguments.flag_of("names", names)
-        widths = [_DIGITS[kind] for kind in self.columns.values()]
-        room = _ROOM + (sum(widths) + has_names * _NAMED) * self._asked().rows()
-        return calls.given(calls.DUMP, room, self._file, has_names).decode()
+    @overload
+    def dump(self, names: bool = ..., *, where: Optional[str] = ..., columns: Optional[Iterable[str]] = ..., path: None = ...) -> str: ...
+
+    @overload
+    def dump(self, names: bool = ..., *, where: Optional[str] = ..., columns: Optional[Iterable[str]] = ..., path: Path) -> None: ...
+
+    def dump(
+        self,
+        names: bool = False,
+        *,
+        where: Optional[str] = None,
+        columns: Optional[Iterable[str]] = None,
+        path: Optional[Path] = None,
+    ) -> Optional[str]:
+        """The live rows, in order of row name, as comma-separated values below a heading, as `lanes dump` writes them.
+
+        Args:
+            names: whether the columns BATCH and ORDINAL, which name a row, come first.
+            `where`: a condition, as after WHERE in a query. Without it all live rows.
+            columns: the columns that are wanted, in order. Without them all.
+            path: the file that the text is written into, in one step, as `save` does. Then None is given, and no text is made of it.
+
+        Raises:
+            Refused: `NoSuchColumn`, or a fault of the condition.
+            ValueError: `columns` has no name.
+            Busy: another process has had the file of the path for ten seconds.
+            OSError: the file can't be written. It is as it was.
+        """
+        from .dumps import dumped
+
+        target = None if path is None else arguments.path_of("path", path)
+        text = dumped(self, names, where, columns)
+        if target is None:
+            return str(calls.view_of(text), "ascii")
+        replacing.replace(target, calls.view_of(text))
+        return None
 
     def head(self, count: int = 5) -> Answer:
         """The first live rows, in order of row name, as an answer whose headings are the columns. No more batches are read than have them.
@@ -361,6 +392,10 @@ class Table:
         heading: bool = True,
         batch: Optional[GivenName] = None,
         progress: Optional[Progress] = None,
+        separator: str = ",",
+        null: str = "",
+        columns: Optional[Iterable[Optional[str]]] = None,
+        whole_lines: bool = False,
     ) -> _Self:
         """The table with more rows: those of comma-separated values. A field is a whole number, or empty for a null.
 
@@ -371,25 +406,32 @@ class Table:
                 calls Ctrl-C is heard, too. What is raised ends the import.
             batch: the first batch's name, as `"1.17"` or `(1, 17)`. The same rows under the same name change nothing, so a load may be
                 sent twice. Without it a name is drawn at random that nobody else has.
+            separator: what is between two fields: one ASCII character, but no letter, no digit, and none of `" - _ \\` and a line's end.
+            null: a word that is a null too, as "NA".
+            columns: what the fields of a line are: of each the name of its column, or "-" or None if it is passed over. A column that no field
+                is of is null. The heading is then any line that is no row.
+            whole_lines: whether a last line without an end is refused: the text may be cut off.
 
         Raises:
-            Refused: the first fault of the text with its line, `Conflict` if the name has other rows, and others.
-            ValueError: `batch` is no name; or `csv` is a text without a line's end that ends as a path does, or is the path of a file.
+            Refused: the first fault of the text with its line, `NoSuchColumn`, `Conflict` if the name has other rows, and others.
+            ValueError: `batch` is no name; or `csv` is a text without a line's end that ends as a path does, or is the path of a file; or
+                `separator`, `null` or `columns` can't be one.
             TypeError: `csv` is neither a text nor bytes nor a file.
         """
+        from .dialects import Dialect
         from .pieces import with_text
 
-        has_heading, text = arguments.flag_of("heading", heading), _text_of(csv)
-        return with_text(self, text, has_heading, name_of(batch) if batch is not None else None, progress)
+        dialect, text = Dialect.of(self, heading, separator, null, columns, whole_lines), _text_of(csv)
+        return with_text(self, text, dialect, name_of(batch) if batch is not None else None, progress)
 
-    def _with_rows_of(self: _Self, text: bytes, has_heading: bool, batch: Optional[BatchName]) -> _Self:
+    def _with_rows_of(self: _Self, text: bytes, dialect: Dialect, batch: Optional[BatchName]) -> _Self:
         """The table with the rows of a text, by one call."""
         origin, number = batch if batch is not None else (0, 0)
         words = (ctypes.c_uint64 * _WORDS)(*(secrets.randbits(64) for _ in range(_WORDS)))
         named = origin, number, ctypes.addressof(words), _WORDS
         room = self._length() + len(text) + _ROOM
-        with explaining.explained(self, calls.Given(calls.ROWS, text, has_heading=has_heading)):
-            return self._made(calls.made(calls.IMPORT, room, self._file, text, has_heading, *named))
+        with explaining.explained(self, dialect.given(text)):
+            return self._made(calls.made(calls.IMPORT_IN, room, self._file, text, *dialect.words(), *named))
 
     def to_numpy(self, columns: Optional[Iterable[str]] = None, where: str = "") -> Columns:
         """The live rows, in order of row name, as arrays of numpy: a dict of `ColumnData`, of each column its values, of the column's own type,

@@ -124,6 +124,17 @@ def names(told, file, table):
                 told.is_said(found, "--columns", "dump", "--columns", words, file)
 
 
+def arguments_of(given):
+    """What `import_csv` is given for what the library is given."""
+    return {
+        "heading": given.get("has_heading", False),
+        "separator": chr(given.get("separator", ord(","))),
+        "null": given.get("null_word", b"").decode(),
+        "columns": given["columns"].decode().split(",") if "columns" in given else None,
+        "whole_lines": given.get("needs_ends", False),
+    }
+
+
 def rows(told, file, table):
     path = os.path.join(told.room, "v")
     texts = [(table, file, *row) for row in ROWS] + [
@@ -139,9 +150,8 @@ def rows(told, file, table):
         fault = calls.refused(38, int(line), int(field))
         found = calls.explained(fault, calls.Given(calls.ROWS, data, **given), holder._words())
         told.is_said(found, "v", "import", *options, name, "v")
-        if set(given) <= {"has_heading"}:
-            own = refused(holder.import_csv, data, heading=given.get("has_heading", False))
-            assert str(own) == str(found), (own, found)
+        own = refused(holder.import_csv, data, **arguments_of(given))
+        assert str(own) == str(found), (own, found)
 
 
 def tables(told):

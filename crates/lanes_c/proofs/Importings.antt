@@ -10,8 +10,8 @@ use Rattle.table_model.specs.declared.names.BatchName.{BatchName}
 use Rattle.table_model.specs.declared.refusal.Refusal.{Refusal}
 use Rattle.table_model.specs.declared.refusal.Refusal.TheVariants.{Memory, ReadFault, WriteFault, Full}
 use Rattle.replica_store.specs.Replica.{Replica, batch_limit}
-use Rattle.csv_rows.specs.CsvText.{csv_rows}
-use Rattle.csv_rows.specs.Reading.{Reading, at_start, to_come}
+use Rattle.csv_rows.specs.DialectForm.{DialectForm}
+use Rattle.csv_rows.specs.Reading.{Reading, at_start_in, to_come}
 use Rattle.csv_rows.specs.declared.error.CsvError.{CsvError}
 use Rattle.csv_rows.specs.declared.error.CsvError.TheVariants as csv
 use Rattle.replica_reports.specs.Held.{held_in}
@@ -19,13 +19,13 @@ use Rattle.replica_changes.specs.Commands.{schema_in}
 use Rattle.replica_changes.specs.CsvLoads.{AreCut, AreFull, LoadsRows, MayStop, RefusesText, StopsLoading, rows_of, with_batches}
 use Rattle.replica_changes.specs.Loads.{LoadForm, empty_load}
 use Rattle.lanes_c.specs.Faults.{told, told_of_csv}
-use Rattle.lanes_c.specs.Importing.{HasTooMany, Loads, LoadsText, IsWhyNotLoaded, IsWhyNotRead, ImportsLoad, Imports}
+use Rattle.lanes_c.specs.Importing.{HasTooMany, Loads, LoadsIn, LoadsText, IsWhyNotLoaded, IsWhyNotRead, IsWhyNotReadIn, ImportsLoad, Imports}
 use Rattle.lanes_c.specs.Opened.{IsWhyNotOpened}
 use Rattle.lanes_c.specs.Rooms.{Given}
 use Rattle.lanes_c.specs.declared.fault.Fault.{Fault}
 
 -- the table of a file is that of what it holds
-schema_held : (file : List ℕ) (schema : Table) → schema_in file ≡ Ok schema → (r : Replica) × (held_in file ≡ Ok r) × (r.schema ≡ schema)
+pub schema_held : (file : List ℕ) (schema : Table) → schema_in file ≡ Ok schema → (r : Replica) × (held_in file ≡ Ok r) × (r.schema ≡ schema)
 schema_held file schema made = go (held_in file) refl made
   where
     go : (x : Result Replica Refusal) → held_in file ≡ x → (x >>= λ (r : Replica). let named : Result Table Refusal = Ok r.schema in named) ≡ Ok schema → (r : Replica) × (held_in file ≡ Ok r) × (r.schema ≡ schema)
@@ -46,10 +46,10 @@ file_refused WriteFault file input same h = inr (inl refl)
 file_refused other file input same h = inl (ap held_in (sym same) ∙ unheld (held_in input) other (h (λ is. cc) (λ is. cc)))
 
 -- a load for which there is no memory
-pub load_lacks : (schema : Table) (e : Refusal) (text : List ℕ) (has_heading : Bool) → Gives {X = LoadForm} (λ (load : LoadForm). load) (Err e) (Ok (empty_load schema)) → IsWhyNotRead schema text has_heading (told e)
-load_lacks schema e text has_heading (inl is) = absurd cc
-load_lacks schema e text has_heading (inr lack) =
-    let P : Refusal → Type 0 = λ x. IsWhyNotRead schema text has_heading (told x) in subst P (sym lack.0) (inl (inl refl))
+pub load_lacks : (dialect : DialectForm) (schema : Table) (e : Refusal) (text : List ℕ) (has_heading : Bool) → Gives {X = LoadForm} (λ (load : LoadForm). load) (Err e) (Ok (empty_load schema)) → IsWhyNotReadIn dialect schema text has_heading (told e)
+load_lacks dialect schema e text has_heading (inl is) = absurd cc
+load_lacks dialect schema e text has_heading (inr lack) =
+    let P : Refusal → Type 0 = λ x. IsWhyNotReadIn dialect schema text has_heading (told x) in subst P (sym lack.0) (inl (inl refl))
 
 -- how many rows full batches have
 full_rows : (batches : List Batch) → AreFull batches → length (rows_of batches) ≡ length batches * row_limit
@@ -59,9 +59,9 @@ full_rows (rows ∷ batches) h =
     length-append rows (rows_of batches) ∙ omega (arith, h.0, more)
 
 -- where a load was stopped that is full, a text without a fault has too many rows
-too_many : (reading : Reading) (old new : LoadForm) (text : List ℕ) (schema : Table) (has_heading : Bool) → reading ≡ at_start schema has_heading → old ≡ empty_load schema
-    → (stops : StopsLoading reading (Some text) old new (csv.Refused Full)) → batch_limit ≤ length new.batches → HasTooMany schema has_heading text
-too_many reading old new text schema has_heading start empty stops many rows come =
+too_many : (dialect : DialectForm) (reading : Reading) (old new : LoadForm) (text : List ℕ) (schema : Table) (has_heading : Bool) → reading ≡ at_start_in dialect schema has_heading → old ≡ empty_load schema
+    → (stops : StopsLoading reading (Some text) old new (csv.Refused Full)) → batch_limit ≤ length new.batches → HasTooMany dialect schema has_heading text
+too_many dialect reading old new text schema has_heading start empty stops many rows come =
     let P : Reading → Type 0 = λ x. to_come x text ≡ Ok rows in
     let left = stops.first text rows refl (subst P (sym start) come) in
     let batches : new.batches ≡ stops.full = ap (λ (l : LoadForm). l.batches) stops.loaded ∙ ap (λ (l : LoadForm). l.batches ++ stops.full) empty in
@@ -70,29 +70,29 @@ too_many reading old new text schema has_heading start empty stops many rows com
     omega (arith, ap length batches, many, some, count, full_rows stops.full stops.are_full)
 
 -- what stops the rows of a text
-stop_told : (e : Refusal) (reading : Reading) (schema : Table) (old new : LoadForm) (text : List ℕ) (has_heading : Bool) → reading ≡ at_start schema has_heading → old ≡ empty_load schema
-    → StopsLoading reading (Some text) old new (csv.Refused e) → MayStop new (csv.Refused e) → IsWhyNotRead schema text has_heading (told e)
-stop_told Memory reading schema old new text has_heading start empty stops may = inl (inl refl)
-stop_told ReadFault reading schema old new text has_heading start empty stops may = inl (inr refl)
-stop_told Full reading schema old new text has_heading start empty stops may = inr (refl, too_many reading old new text schema has_heading start empty stops may)
-stop_told other reading schema old new text has_heading start empty stops may = absurd may
+stop_told : (dialect : DialectForm) (e : Refusal) (reading : Reading) (schema : Table) (old new : LoadForm) (text : List ℕ) (has_heading : Bool) → reading ≡ at_start_in dialect schema has_heading → old ≡ empty_load schema
+    → StopsLoading reading (Some text) old new (csv.Refused e) → MayStop new (csv.Refused e) → IsWhyNotReadIn dialect schema text has_heading (told e)
+stop_told dialect Memory reading schema old new text has_heading start empty stops may = inl (inl refl)
+stop_told dialect ReadFault reading schema old new text has_heading start empty stops may = inl (inr refl)
+stop_told dialect Full reading schema old new text has_heading start empty stops may = inr (refl, too_many dialect reading old new text schema has_heading start empty stops may)
+stop_told dialect other reading schema old new text has_heading start empty stops may = absurd may
 
-csv_told : (e : CsvError) (csv : Reading) (schema : Table) (old new : LoadForm) (text : List ℕ) (has_heading : Bool) → csv ≡ at_start schema has_heading → old ≡ empty_load schema
-    → RefusesText csv e (Some text) → StopsLoading csv (Some text) old new e → IsWhyNotRead schema text has_heading (told_of_csv e)
-csv_told (csv.Refused refusal) reading schema old new text has_heading start empty why stops =
+csv_told : (dialect : DialectForm) (e : CsvError) (csv : Reading) (schema : Table) (old new : LoadForm) (text : List ℕ) (has_heading : Bool) → csv ≡ at_start_in dialect schema has_heading → old ≡ empty_load schema
+    → RefusesText csv e (Some text) → StopsLoading csv (Some text) old new e → IsWhyNotReadIn dialect schema text has_heading (told_of_csv e)
+csv_told dialect (csv.Refused refusal) reading schema old new text has_heading start empty why stops =
     let same : old.schema ≡ reading.table = ap (λ (l : LoadForm). l.schema) empty ∙ sym (ap (λ (x : Reading). x.table) start) in
-    stop_told refusal reading schema old new text has_heading start empty stops (stops.may_stop same)
-csv_told (csv.BadCsv line column) reading schema old new text has_heading start empty why stops =
+    stop_told dialect refusal reading schema old new text has_heading start empty stops (stops.may_stop same)
+csv_told dialect (csv.BadCsv line column) reading schema old new text has_heading start empty why stops =
     let P : Reading → Type 0 = λ x. RefusesText x (csv.BadCsv line column) (Some text) in subst P start why
-csv_told (csv.LineTooLong line) reading schema old new text has_heading start empty why stops =
+csv_told dialect (csv.LineTooLong line) reading schema old new text has_heading start empty why stops =
     let P : Reading → Type 0 = λ x. RefusesText x (csv.LineTooLong line) (Some text) in subst P start why
 
 -- ---- rows that are loaded
 
 -- the rows that came are batches of the table
-loads_of : (csv : Reading) (schema : Table) (old load : LoadForm) (text : List ℕ) (has_heading : Bool) → csv ≡ at_start schema has_heading → old ≡ empty_load schema → LoadsRows csv (Some text) old load
-    → LoadsText schema text has_heading load
-loads_of csv schema old load text has_heading start empty (rows, batches, come, cut, new) =
+loads_of : (dialect : DialectForm) (csv : Reading) (schema : Table) (old load : LoadForm) (text : List ℕ) (has_heading : Bool) → csv ≡ at_start_in dialect schema has_heading → old ≡ empty_load schema → LoadsRows csv (Some text) old load
+    → LoadsIn dialect schema text has_heading load
+loads_of dialect csv schema old load text has_heading start empty (rows, batches, come, cut, new) =
     let P : Reading → Type 0 = λ x. to_come x text ≡ Ok rows in
     let whole : load ≡ with_batches (empty_load schema) batches = new ∙ ap (λ (l : LoadForm). with_batches l batches) empty in
     let R : List Batch → Type 0 = λ b. AreCut rows b in
@@ -122,17 +122,17 @@ imports_of (Ok bytes) load first words file text has_heading loads h = (load, lo
 imports_of (Err fault) load first words file text has_heading loads h = inr (load, loads, h)
 
 -- the same, over a reader that had the text
-pub text_refused : (e : CsvError) (csv : Reading) (schema : Table) (old new : LoadForm) (text given : List ℕ) (has_heading : Bool) → given ≡ text → csv ≡ at_start schema has_heading
-    → ◌≡◌ {A = Result LoadForm Refusal} (Ok (empty_load schema)) (Ok old) → RefusesText csv e (Some given) → StopsLoading csv (Some given) old new e → IsWhyNotRead schema text has_heading (told_of_csv e)
-text_refused e csv schema old new text given has_heading is start empty why stops =
+pub text_refused : (dialect : DialectForm) (e : CsvError) (csv : Reading) (schema : Table) (old new : LoadForm) (text given : List ℕ) (has_heading : Bool) → given ≡ text → csv ≡ at_start_in dialect schema has_heading
+    → ◌≡◌ {A = Result LoadForm Refusal} (Ok (empty_load schema)) (Ok old) → RefusesText csv e (Some given) → StopsLoading csv (Some given) old new e → IsWhyNotReadIn dialect schema text has_heading (told_of_csv e)
+text_refused dialect e csv schema old new text given has_heading is start empty why stops =
     let P : List ℕ → Type 0 = λ t. RefusesText csv e (Some t) in
     let Q : List ℕ → Type 0 = λ t. StopsLoading csv (Some t) old new e in
     let made : old ≡ empty_load schema = cc in
-    csv_told e csv schema old new text has_heading start made (subst P is why) (subst Q is stops)
+    csv_told dialect e csv schema old new text has_heading start made (subst P is why) (subst Q is stops)
 
-pub rows_loaded : (csv : Reading) (schema : Table) (old load : LoadForm) (text given : List ℕ) (has_heading : Bool) → given ≡ text → csv ≡ at_start schema has_heading
-    → ◌≡◌ {A = Result LoadForm Refusal} (Ok (empty_load schema)) (Ok old) → LoadsRows csv (Some given) old load → LoadsText schema text has_heading load
-rows_loaded csv schema old load text given has_heading is start empty rows =
+pub rows_loaded : (dialect : DialectForm) (csv : Reading) (schema : Table) (old load : LoadForm) (text given : List ℕ) (has_heading : Bool) → given ≡ text → csv ≡ at_start_in dialect schema has_heading
+    → ◌≡◌ {A = Result LoadForm Refusal} (Ok (empty_load schema)) (Ok old) → LoadsRows csv (Some given) old load → LoadsIn dialect schema text has_heading load
+rows_loaded dialect csv schema old load text given has_heading is start empty rows =
     let P : List ℕ → Type 0 = λ t. LoadsRows csv (Some t) old load in
     let made : old ≡ empty_load schema = cc in
-    loads_of csv schema old load text has_heading start made (subst P is rows)
+    loads_of dialect csv schema old load text has_heading start made (subst P is rows)

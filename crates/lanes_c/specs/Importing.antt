@@ -6,7 +6,8 @@ use Rattle.table_model.specs.declared.names.BatchName.{BatchName}
 use Rattle.table_model.specs.declared.refusal.Refusal.TheVariants.{Full}
 use Rattle.column_file.specs.Input.{IsUnread}
 use Rattle.replica_store.specs.Replica.{Replica, batch_limit}
-use Rattle.csv_rows.specs.CsvText.{csv_rows}
+use Rattle.csv_rows.specs.CsvText.{rows_in}
+use Rattle.csv_rows.specs.DialectForm.{DialectForm, usual}
 use Rattle.csv_rows.specs.declared.error.CsvError.TheVariants as csv
 use Rattle.replica_reports.specs.Held.{held_in}
 use Rattle.replica_changes.specs.CommandForms.{Import}
@@ -18,25 +19,33 @@ use Rattle.lanes_c.specs.Rooms.{Given}
 use Rattle.lanes_c.specs.declared.fault.Fault.{Fault}
 use Rattle.lanes_c.specs.declared.fault.Fault.TheVariants as faults
 
--- the batches of a load are the rows of a text, read as rows of a table
+-- the batches of a load are the rows of a text in a dialect, read as rows of a table
+abbrev pub LoadsIn : DialectForm → Table → List ℕ → Bool → LoadForm → Type 0
+LoadsIn dialect table text has_heading load = (rows : Batch) × (rows_in dialect table has_heading text ≡ Ok rows) × (load.schema ≡ table) × AreCut rows load.batches
+
+-- the same of the usual dialect
 abbrev pub LoadsText : Table → List ℕ → Bool → LoadForm → Type 0
-LoadsText table text has_heading load = (rows : Batch) × (csv_rows table has_heading text ≡ Ok rows) × (load.schema ≡ table) × AreCut rows load.batches
+LoadsText table text has_heading load = LoadsIn usual table text has_heading load
 
 -- the same of the table that a file holds
 abbrev pub Loads : List ℕ → List ℕ → Bool → LoadForm → Type 0
 Loads file text has_heading load = (r : Replica) × (held_in file ≡ Ok r) × LoadsText r.schema text has_heading load
 
 -- a text has more rows than the batches of a replica may have, if it has no fault
-abbrev pub HasTooMany : Table → Bool → List ℕ → Type 0
-HasTooMany table has_heading text = (rows : Batch) → csv_rows table has_heading text ≡ Ok rows → batch_limit * row_limit < length rows
+abbrev pub HasTooMany : DialectForm → Table → Bool → List ℕ → Type 0
+HasTooMany dialect table has_heading text = (rows : Batch) → rows_in dialect table has_heading text ≡ Ok rows → batch_limit * row_limit < length rows
 
--- Why the rows of a text weren't loaded as rows of a table: the text's first fault, or Full, which means too many rows; out of memory and
--- ReadFault may come in the place of anything.
+-- Why the rows of a text in a dialect weren't loaded as rows of a table: the text's first fault, or Full, which means too many rows; out of
+-- memory and ReadFault may come in the place of anything.
+abbrev pub IsWhyNotReadIn : DialectForm → Table → List ℕ → Bool → Fault → Type 0
+IsWhyNotReadIn dialect table text has_heading (faults.Refused e) = IsUnread e ⊎ ((e ≡ Full) × HasTooMany dialect table has_heading text)
+IsWhyNotReadIn dialect table text has_heading (faults.BadCsv line column) = rows_in dialect table has_heading text ≡ Err (csv.BadCsv line column)
+IsWhyNotReadIn dialect table text has_heading (faults.LineTooLong line) = rows_in dialect table has_heading text ≡ Err (csv.LineTooLong line)
+IsWhyNotReadIn dialect table text has_heading other = ⊥
+
+-- the same of the usual dialect
 abbrev pub IsWhyNotRead : Table → List ℕ → Bool → Fault → Type 0
-IsWhyNotRead table text has_heading (faults.Refused e) = IsUnread e ⊎ ((e ≡ Full) × HasTooMany table has_heading text)
-IsWhyNotRead table text has_heading (faults.BadCsv line column) = csv_rows table has_heading text ≡ Err (csv.BadCsv line column)
-IsWhyNotRead table text has_heading (faults.LineTooLong line) = csv_rows table has_heading text ≡ Err (csv.LineTooLong line)
-IsWhyNotRead table text has_heading other = ⊥
+IsWhyNotRead table text has_heading fault = IsWhyNotReadIn usual table text has_heading fault
 
 -- why the rows of a text weren't loaded as rows of the table that a file holds: the file's first fault, or the text's
 abbrev pub IsWhyNotLoaded : List ℕ → List ℕ → Bool → Fault → Type 0

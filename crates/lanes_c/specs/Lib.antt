@@ -3,9 +3,11 @@ pub mod AnswerColumns
 pub mod AnswerHandles
 pub mod Bringing
 pub mod Calls
+pub mod ChosenDumps
 pub mod ColumnCalls
 pub mod Coverage
 pub mod DeletePart
+pub mod Dialects
 pub mod Expecting
 pub mod Faults
 pub mod FolderPlans

@@ -2,14 +2,14 @@
 ghost use Rattle.std.specs.Prelude.{◌≡◌, ◌++◌, codes, IfOk, IfErr};
 ghost use Rattle.replica_changes.specs.CommandForms.{Delete};
 ghost use Rattle.lanes_c.specs.Calls.{Yields, Asks, change_of, create_of, empty_file_of, forget_of, line_of};
-ghost use Rattle.lanes_c.specs.Importing.{Loads, LoadsText, IsWhyNotLoaded, IsWhyNotRead, Imports, name_given};
+ghost use Rattle.lanes_c.specs.Importing.{Loads, LoadsIn, LoadsText, IsWhyNotLoaded, IsWhyNotRead, IsWhyNotReadIn, ImportsLoad, Imports, name_given};
 ghost use Rattle.lanes_c.specs.Rooms.{Tells, given_by};
 
 use crate::fault::{Fault, Place};
 use crate::file_changes::changed;
 use crate::room::hand_out;
 use crate::taking::{left, taken, text_of};
-use csv_rows::CsvReader;
+use csv_rows::{CsvReader, Dialect};
 use replica_changes::{Load, create, file_schema, forget, read_csv};
 use script_lines::{Command, TableCommand, parse_line};
 use std::alloc::{AllocError, Global};
@@ -64,7 +64,24 @@ fn forgotten(alloc: Global, file: &[u8]) -> Result<Vec<u8>, Fault>
     left(alloc, file, done.batches != 0, writer)
 }
 
-/// The rows of a text as batches of a table.
+/// The rows of a text in a dialect as batches of a table.
+pub(crate) fn loaded_in(
+    alloc: Global,
+    schema: &Schema,
+    dialect: Dialect,
+    csv: &[u8],
+    has_heading: bool,
+) -> Result<Load, Fault>
+    ensures load { IfOk result (λ load. LoadsIn dialect schema.now csv.now has_heading load) }
+    ensures fault { IfErr result (λ fault. IsWhyNotReadIn dialect schema.now csv.now has_heading fault) }
+{
+    let mut load = Load::new(alloc, schema)?;
+    let mut rows = CsvReader::in_dialect(alloc, schema, has_heading, dialect)?;
+    read_csv(alloc, &mut rows, &mut Counted::new(csv), &mut load)?;
+    Ok(load)
+}
+
+/// The same in the usual dialect.
 pub(crate) fn loaded(
     alloc: Global,
     schema: &Schema,
@@ -74,10 +91,7 @@ pub(crate) fn loaded(
     ensures load { IfOk result (λ load. LoadsText schema.now csv.now has_heading load) }
     ensures fault { IfErr result (λ fault. IsWhyNotRead schema.now csv.now has_heading fault) }
 {
-    let mut load = Load::new(alloc, schema)?;
-    let mut rows = CsvReader::new(alloc, schema, has_heading)?;
-    read_csv(alloc, &mut rows, &mut Counted::new(csv), &mut load)?;
-    Ok(load)
+    loaded_in(alloc, schema, Dialect::usual(), csv, has_heading)
 }
 
 /// The same of the table that a file holds.
@@ -100,6 +114,24 @@ pub(crate) fn name_given(origin: u32, number: u32) -> Option<BatchName>
         origin: Origin(origin),
         number: Number(number),
     })
+}
+
+/// The file with a load's batches.
+pub(crate) fn imported(
+    alloc: Global,
+    file: &[u8],
+    load: Load,
+    first: Option<BatchName>,
+    words: &[u64],
+) -> Result<Vec<u8>, Fault>
+    ensures { ImportsLoad (given_by result) load first words.now file.now }
+{
+    let import = replica_changes::Command::Import {
+        load,
+        given: first,
+        words,
+    };
+    changed(alloc, file, import)
 }
 
 /// Makes the file of an empty table: its name and, column by column, the column's name and its type, all with one space between.
@@ -165,12 +197,7 @@ fn imported_text(
     ensures { Imports (given_by result) csv.now has_heading first words.now file.now }
 {
     let load = loaded_for(alloc, file, csv, has_heading)?;
-    let import = replica_changes::Command::Import {
-        load,
-        given: first,
-        words,
-    };
-    changed(alloc, file, import)
+    imported(alloc, file, load, first, words)
 }
 
 /// Imports rows of comma-separated values as batches of 65,536 rows, the last one shorter, under consecutive names: the first is

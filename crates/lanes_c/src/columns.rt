@@ -23,7 +23,7 @@ use store_view::StoreView;
 use table_model::{ColType, Column, Refusal, Schema};
 
 /// What columns are asked for: their names with one space between, and a condition.
-fn asked_for(
+pub(crate) fn asked_for(
     alloc: Global,
     schema: &Schema,
     names: &[u8],

@@ -13,6 +13,13 @@ use table_model::{BatchName, Number, Origin, Refusal};
 /// The library's version, which is the program's.
 const VERSION: &str = "0.11.0";
 
+/// What is said of a separator that can't be one.
+const NO_SEPARATOR: &str =
+    "the separator is one ASCII character; no letter, no digit, and none of \" - _ \\ and a line's end";
+
+/// What is said of a null's word that is no text.
+const NO_NULL_WORD: &str = "the word that is a null too is not UTF-8";
+
 /// A number's low 32 bits.
 fn low(number: u64) -> u32
     ensures { result ≡ number % 4294967296 }
@@ -188,12 +195,15 @@ pub(crate) fn command_refusal(number: u8, place: Place) -> Option<CommandRefusal
     }
 }
 
-/// What is known of a refusal in addition: the line of one that is too long.
+/// What is known of a refusal in addition: the line of one that is too long, and what is wrong with a dialect.
 pub(crate) fn known_of<'a>(refusal: CommandRefusal, place: Place) -> Knowledge<'a> {
-    if refusal == CommandRefusal::Named(Refusal::LineTooLong) && place.first != 0 {
-        Knowledge::Line(place.first)
-    } else {
-        Knowledge::Nothing
+    match refusal {
+        CommandRefusal::Named(Refusal::LineTooLong) if place.first != 0 => {
+            Knowledge::Line(place.first)
+        }
+        CommandRefusal::BadCsv { line: 0, column: 1 } => Knowledge::Advice(NO_SEPARATOR),
+        CommandRefusal::BadCsv { line: 0, column: 2 } => Knowledge::Advice(NO_NULL_WORD),
+        _ => Knowledge::Nothing,
     }
 }
 

@@ -297,7 +297,8 @@ fn said_of(
         (CommandRefusal::Named(Refusal::SchemaDiffers), Some(wanted)) if given == Given::Table => {
             said_on_tables(alloc, text, wanted, columns)
         }
-        (CommandRefusal::BadCsv { line, column }, Some(schema)) if given == Given::Rows => {
+        (CommandRefusal::BadCsv { line, column }, Some(schema))
+            if given == Given::Rows && line != 0 => {
             let rows = RefusedRows {
                 text,
                 separator: refused.separator_or(b','),

@@ -11,4 +11,4 @@ returns-in_err-load c =
     rw (p.1, p.2) (inl c.in_err-load.ensures.fault)
 
 pub returns : goal.returns
-returns c = imports_of (given_by c.changed.result) c.in_ok-load.load c.args.first c.args.words.now c.args.file.now c.args.csv.now c.args.has_heading c.in_ok-load.ensures.load c.changed.ensures
+returns c = imports_of (given_by c.imported.result) c.in_ok-load.load c.args.first c.args.words.now c.args.file.now c.args.csv.now c.args.has_heading c.in_ok-load.ensures.load c.imported.ensures
