@@ -8,12 +8,13 @@ use Rattle.csv_rows.specs.DialectForm.{DialectForm}
 use Rattle.csv_rows.specs.Wording.{order_of_words}
 use Rattle.replica_reports.specs.Held.{held_in}
 use Rattle.replica_store.specs.Replica.{Replica}
+use Rattle.replica_changes.specs.CommandForms.{Import}
 use Rattle.replica_changes.specs.Loads.{LoadForm}
 use Rattle.lanes_c.specs.Calls.{Yields}
 use Rattle.lanes_c.specs.Importing.{ImportsLoad, IsWhyNotReadIn, LoadsIn}
 use Rattle.lanes_c.specs.Opened.{IsWhyNotOpened}
 use Rattle.lanes_c.specs.Rooms.{Given}
-use Rattle.lanes_c.specs.TableChanges.{Changed, with_load}
+use Rattle.lanes_c.specs.TableChanges.{Changed, with_command}
 use Rattle.lanes_c.specs.declared.fault.Fault.{Fault}
 use Rattle.lanes_c.specs.declared.fault.Fault.TheVariants.{BadCsv, InNames, Refused}
 
@@ -114,6 +115,6 @@ ImportsRows (Err fault) form text has_heading first words file =
 
 -- lanes_table_import_in: the replica with the rows of a text; or why these weren't loaded; or what their import is refused as
 abbrev pub ImportsRowsInto : Changed → RowsForm → List ℕ → Bool → Option BatchName → List ℕ → Replica → Type 0
-ImportsRowsInto (Ok new) form text has_heading first words r = (load : LoadForm) × ReadsRows (Ok load) r.schema form text has_heading × Yields (Ok new) (with_load load first words r)
+ImportsRowsInto (Ok new) form text has_heading first words r = (load : LoadForm) × ReadsRows (Ok load) r.schema form text has_heading × Yields (Ok new) (with_command (Import load first words) r)
 ImportsRowsInto (Err fault) form text has_heading first words r =
-    ReadsRows (Err fault) r.schema form text has_heading ⊎ ((load : LoadForm) × ReadsRows (Ok load) r.schema form text has_heading × Yields (Err fault) (with_load load first words r))
+    ReadsRows (Err fault) r.schema form text has_heading ⊎ ((load : LoadForm) × ReadsRows (Ok load) r.schema form text has_heading × Yields (Err fault) (with_command (Import load first words) r))

@@ -10,8 +10,8 @@ use crate::dialects::dialect_of;
 use crate::fault::{Fault, Place};
 use crate::handle::Table;
 use crate::room::hand_out;
-use crate::table_changes::{put_change, tell, with_load};
-use replica_changes::{Load, file_schema};
+use crate::table_changes::{put_change, tell, with_command};
+use replica_changes::{Command, Load, file_schema};
 use replica_store::Store;
 use std::alloc::Global;
 use std::mem::replace;
@@ -95,7 +95,12 @@ fn with_rows(
         columns,
         needs_ends,
     )?;
-    with_load(alloc, store, load, first, words)
+    let import = Command::Import {
+        load,
+        given: first,
+        words,
+    };
+    with_command(alloc, store, import)
 }
 
 /// Imports rows of comma-separated values in a dialect, as `lanes_import` does in the usual one. The separator is the byte between two
