@@ -1,18 +1,13 @@
 -- What the call makes that deletes rows of a batch only if the table has the batch.
 use Rattle.std.specs.Prelude.{◌≡◌, ◌⊎◌, ℕ, Bool, cond, MatchOption, Result, Ok}
-use Rattle.std.specs.FinSet as set
 use Rattle.table_model.specs.Reading.{◌>>=◌}
 use Rattle.table_model.specs.declared.names.BatchName.{BatchName}
 use Rattle.table_model.specs.declared.names.RowName.{RowName}
 use Rattle.table_model.specs.declared.refusal.Refusal.{Refusal}
-use Rattle.replica_store.specs.Replica.{Replica, names_of}
+use Rattle.replica_store.specs.Replica.{Replica, holds}
 use Rattle.replica_changes.specs.CommandForms.{DeleteRows}
 use Rattle.lanes_c.specs.TableChanges.{with_command}
 use Rattle.lanes_c.specs.declared.handle.Table.{Table}
-
--- whether a replica has a batch
-abbrev pub holds : Replica → BatchName → Bool
-holds r name = set.contains (names_of r.state.batches) name
 
 -- how many batches of a name it has
 abbrev pub held_count : Replica → BatchName → ℕ
@@ -26,6 +21,6 @@ without_range_if is_held first last r = with_command (DeleteRows first last) r >
 abbrev pub without_held_range : RowName → ℕ → Replica → Result Replica Refusal
 without_held_range first last r = without_range_if (holds r first.batch) first last r
 
--- what is told of a handle: how many batches of that name its table had; none if it is closed; or memory ran out
-abbrev pub CountsHeld : ℕ → ℕ → Table → RowName → Type 0
-CountsHeld number held old first = MatchOption old.replica (held ≡ 0) (λ r. (held ≡ held_count r first.batch) ⊎ (number ≡ 1))
+-- what is told of a handle: how many batches of that name its table had; none if it is closed
+abbrev pub CountsHeld : ℕ → Table → RowName → Type 0
+CountsHeld held old first = MatchOption old.replica (held ≡ 0) (λ r. held ≡ held_count r first.batch)

@@ -1,10 +1,8 @@
 //! The call that deletes rows of a batch of a handle's table only if the table has the batch.
-ghost use Rattle.std.specs.Prelude.{◌≡◌, ◌⊎◌, Err, IfOk, IfErr};
-ghost use Rattle.table_model.specs.declared.refusal.Refusal.TheVariants.{Memory};
+ghost use Rattle.std.specs.Prelude.{◌≡◌};
 ghost use Rattle.lanes_c.specs.Calls.{Yields};
-ghost use Rattle.lanes_c.specs.HeldRows.{CountsHeld, held_count, holds, without_held_range, without_range_if};
+ghost use Rattle.lanes_c.specs.HeldRows.{CountsHeld, held_count, without_held_range, without_range_if};
 ghost use Rattle.lanes_c.specs.TableChanges.{ChangesOpen, changed_by, row_name};
-ghost use Rattle.lanes_c.specs.declared.fault.Fault.TheVariants.{Refused};
 
 use crate::fault::{Fault, Place};
 use crate::handle::Table;
@@ -13,16 +11,7 @@ use replica_changes::Command;
 use replica_store::Store;
 use std::alloc::Global;
 use std::mem::replace;
-use table_model::{BatchName, Refusal, RowName};
-
-/// Whether a store has a batch.
-fn holds(alloc: Global, store: &Store, name: BatchName) -> Result<bool, Refusal>
-    ensures held { IfOk result (λ held. held ≡ holds store.now.replica name) }
-    ensures refused { IfErr result (λ e. e ≡ Memory) }
-{
-    let summary = store.summary(alloc)?;
-    Ok(summary.names().holds(name))
-}
+use table_model::RowName;
 
 /// What a store has without a range of rows of a batch, if it has the batch, and else what it has.
 fn without_range_if(
@@ -50,15 +39,11 @@ fn held_change(
     last: u16,
 ) -> (Result<Store, Fault>, usize)
     ensures changed { Yields (changed_by result.0) (without_held_range first last store.now.replica) }
-    ensures held { (result.1 ≡ held_count store.now.replica first.batch) ⊎ (changed_by result.0 ≡ Err (Refused Memory)) }
+    ensures held { result.1 ≡ held_count store.now.replica first.batch }
 {
-    match holds(alloc, store, first.batch) {
-        Ok(is_held) => {
-            let changed = without_range_if(alloc, store, first, last, is_held);
-            (changed, usize::from(is_held))
-        }
-        Err(refusal) => (Err(Fault::from(refusal)), 0),
-    }
+    let is_held = store.holds(first.batch);
+    let changed = without_range_if(alloc, store, first, last, is_held);
+    (changed, usize::from(is_held))
 }
 
 /// Deletes the rows of a batch of the table of a handle from the ordinal `first` to `last`, both included, if the table has the batch; it
@@ -78,7 +63,7 @@ pub extern "C" fn lanes_table_delete_held_rows(
     place: &mut Place,
 ) -> u8
     ensures changed { ChangesOpen (λ r given. Yields given (without_held_range (row_name origin number first) last r)) result table.old table.new place.new }
-    ensures held { CountsHeld result held.new table.old (row_name origin number first) }
+    ensures held { CountsHeld held.new table.old (row_name origin number first) }
 {
     let Some(shared) = replace(table, Table::closed()).into_box(alloc) else {
         *held = 0;

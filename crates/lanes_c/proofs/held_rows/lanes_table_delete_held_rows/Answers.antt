@@ -1,11 +1,9 @@
 -- The handle has what was made of what it had, or it has that; and how many batches of the name there were is told.
-use Rattle.std.specs.Prelude.{◌≡◌, ◌⊎◌, ℕ, Err, Option, Some}
+use Rattle.std.specs.Prelude.{◌≡◌, Some}
 use Rattle.std.proofs.Common.{sym, ap, subst, ◌∙◌, inl, inr, refl}
 use Rattle.table_model.specs.declared.names.RowName.{RowName}
-use Rattle.table_model.specs.declared.refusal.Refusal.TheVariants.{Memory}
 use Rattle.replica_store.specs.Replica.{Replica}
 use Rattle.replica_store.specs.Segments.{StoreForm}
-use Rattle.lanes_c.specs.declared.fault.Fault.TheVariants.{Refused}
 use Rattle.lanes_c.specs.declared.handle.Table.{Table}
 use Rattle.lanes_c.specs.declared.shared.Shared.{Shared}
 use Rattle.lanes_c.specs.Calls.{Yields}
@@ -26,10 +24,9 @@ returns-clause-changed c =
 
 pub returns-clause-held : goal.returns-clause-held
 returns-clause-held c =
-    let changed : Changed = changed_by c.held_change-changed.result.0 in
     let r : Replica = c.in-Some.shared.value.store.value.replica in
     let held : c.args.table.now.replica ≡ Some r = ap (λ (t : Table). t.replica) (sym c.replace.ensures.value) ∙ c.in-Some.ensures in
     let same : c.deref-2.result.now.replica ≡ r = ap (λ (s : StoreForm). s.replica) (c.deref-2.ensures ∙ ap (λ (x : Shared). x.store.value) c.deref.ensures) in
-    let P : Replica → Type 0 = λ x. (c.held_change-changed.result.1 ≡ held_count x c.row_name-first.result.batch) ⊎ (changed ≡ Err (Refused Memory)) in
-    let Q : RowName → Type 0 = λ n. (c.held_change-changed.result.1 ≡ held_count r n.batch) ⊎ (changed ≡ Err (Refused Memory)) in
-    held_told changed _ _ c.args.table.now r (row_name c.args.origin c.args.number c.args.first) _ _ held (subst Q c.row_name-first.ensures (subst P same c.held_change-changed.ensures.held)) c.put_change.ensures
+    let P : Replica → Type 0 = λ x. c.held_change-changed.result.1 ≡ held_count x c.row_name-first.result.batch in
+    let Q : RowName → Type 0 = λ n. c.held_change-changed.result.1 ≡ held_count r n.batch in
+    held_told _ c.args.table.now r (row_name c.args.origin c.args.number c.args.first) held (subst Q c.row_name-first.ensures (subst P same c.held_change-changed.ensures.held))
