@@ -22,9 +22,9 @@ returns-in_err-deleted c =
 pub returns-then-is_held : goal.returns-then-is_held
 returns-then-is_held c =
     rewrites_changes (λ (d : HeldRows). d.is_held) (λ (d : HeldRows). d.is_changed) (λ (r : Replica). deleted_if_held r c.args.first c.args.last) c.args.file.items c.in_ok-store.store.replica _ _ c.in_ok-store.ensures
-    (held_rewrites c.args.first c.args.last c.in_ok-store.store.replica c.in_ok-deleted.deleted c.in_ok-deleted.new.items c.in_ok-deleted.ensures c.is_changed.result c.is_changed.ensures (sym c.if-is_held.true ∙ c.holds.ensures))
+    (held_rewrites c.args.first c.args.last c.in_ok-store.store.replica c.in_ok-deleted.deleted c.in_ok-deleted.new.items c.in_ok-deleted.ensures c.is_changed.result c.is_changed.ensures (sym c.if-is_held.true ∙ c.holds-is_held.ensures))
 
 pub returns-else-is_held : goal.returns-else-is_held
 returns-else-is_held c =
     rewrites_changes (λ (d : HeldRows). d.is_held) (λ (d : HeldRows). d.is_changed) (λ (r : Replica). deleted_if_held r c.args.first c.args.last) c.args.file.items c.in_ok-store.store.replica _ _ c.in_ok-store.ensures
-    (absent_rewrites c.args.first c.args.last c.in_ok-store.store.replica c.in_ok-deleted.deleted c.in_ok-deleted.new.items c.in_ok-deleted.ensures c.new.result.items c.new.ensures.items (sym c.if-is_held.false ∙ c.holds.ensures))
+    (absent_rewrites c.args.first c.args.last c.in_ok-store.store.replica c.in_ok-deleted.deleted c.in_ok-deleted.new.items c.in_ok-deleted.ensures c.new.result.items c.new.ensures.items (sym c.if-is_held.false ∙ c.holds-is_held.ensures))
