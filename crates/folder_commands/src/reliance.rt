@@ -8,8 +8,8 @@ ghost use Rattle.folder_commands.specs.ReadParts.{More};
 ghost use Rattle.folder_commands.specs.Relying.{AreRelied, IsIn, IsNoneMet, Item, ReliesOn};
 
 use catalogue_join::Held;
-use folder_parts::LoadNames;
 use column_file::{Skimmed, skim};
+use folder_parts::LoadNames;
 use std::alloc::Global;
 use table_model::{BatchName, Refusal};
 
