@@ -15,6 +15,8 @@ from lanes import Folder, Refused, Table, pieces
 
 #: The program: the script runs the one that was built here or the released one.
 PROGRAM = os.environ.get("LANES_PROGRAM", os.fspath(pathlib.Path(__file__).resolve().parent.parent.parent / "lanes"))
+#: What ./lanes says first if the released program is of other sources.
+OTHER_SOURCES = "lanes: this program is of other sources"
 
 EMPTY = Table.create("T", {"A": "SMALLINT", "B": "INTEGER", "C": "BIGINT"})
 
@@ -69,7 +71,8 @@ class Programs(unittest.TestCase):
     def program(self, *words: str, given: str = "") -> Tuple[str, str]:
         """What the program writes, and what it says."""
         ended = subprocess.run([PROGRAM, *words], input=given.encode(), capture_output=True, cwd=self.room)
-        return ended.stdout.decode(), ended.stderr.decode()
+        said = ended.stderr.decode().splitlines(keepends=True)
+        return ended.stdout.decode(), "".join(line for line in said if not line.startswith(OTHER_SOURCES))
 
     def imported(self, text: str, options: List[str]) -> Tuple[bytes, str]:
         """The file that the program makes of a text, and what it says."""
