@@ -31,17 +31,23 @@ pub of_bytes : {Y : Type 0} (command : List OfferForm → Made Y) (bytes : List 
 of_bytes {Y} command bytes o offers read one = ap (λ (x : Result OfferForm Refusal). x >>= λ (p : OfferForm). command (p ∷ [])) read ∙ ap command (sym one)
 
 -- what is made, without the tag of its command
-untagged : {Y : Type 0} (tag : Y → AnswerForm) (made : Made Y) (a : AnswerForm) (r : Replica) → tagged tag made ≡ Ok (a, r) → (y : Y) × (made ≡ Ok (y, r)) × (tag y ≡ a)
+record Untagged {Y : Type 0} (tag : Y → AnswerForm) (made : Made Y) (a : AnswerForm) (r : Replica) : Type 0 where
+  answer : Y
+  is_made : made ≡ Ok (answer, r)
+  is_tagged : tag answer ≡ a
+
+untagged : {Y : Type 0} (tag : Y → AnswerForm) (made : Made Y) (a : AnswerForm) (r : Replica) → tagged tag made ≡ Ok (a, r) → Untagged tag made a r
 untagged {Y} tag (Ok done) a r is =
     let both : ◌≡◌ {A = AnswerForm × Replica} (tag done.0, done.1) (a, r) = cc in
     let second : done.1 ≡ r = ap (λ (p : AnswerForm × Replica). p.1) both in
-    (done.0, (λ i. (let m : Made Y = Ok (done.0, second i) in m), ap (λ (p : AnswerForm × Replica). p.0) both))
+    let of_second : Replica → Made Y = λ x. Ok (done.0, x) in
+    record { answer = done.0; is_made = ap of_second second; is_tagged = ap (λ (p : AnswerForm × Replica). p.0) both }
 untagged tag (Err e) a r is = absurd cc
 
 -- the count of an apply
-count_of : (answer : Answer) (y : Counts) → OfApply y ≡ answer_of answer → batches_new answer ≡ y.1.1
+count_of : (answer : Answer) (y : Counts) → OfApply y ≡ answer_of answer → batches_new answer ≡ y.1
 count_of (answers.Applied done) y is =
-    let same : ◌≡◌ {A = Counts} y (done.batches, done.ranges, done.new) = cc in ap (λ (p : Counts). p.1.1) (sym same)
+    let same : ◌≡◌ {A = Counts} y (done.batches, done.ranges, done.new) = cc in ap (λ (p : Counts). p.1) (sym same)
 count_of (answers.Imported done) y is = absurd cc
 count_of (answers.Deleted done) y is = absurd cc
 count_of (answers.DeletedRows done) y is = absurd cc
@@ -56,17 +62,17 @@ pub offer_brings : (answer : Answer) (bytes written : List ℕ) (o : OfferForm) 
 offer_brings answer bytes written o offers held before now read one none some (part, is, writes) (after, makes, says) =
     let first = untagged OfApply (part_of_offers offers held) (answer_of answer) part is in
     let second = untagged OfApply (applying offers held) (answer_of answer) after makes in
-    let tags : OfApply second.0 ≡ OfApply first.0 = second.1.1 ∙ sym first.1.1 in
-    let same : second.0 ≡ first.0 = cc in
+    let tags : OfApply second.answer ≡ OfApply first.answer = second.is_tagged ∙ sym first.is_tagged in
+    let same : second.answer ≡ first.answer = cc in
     record {
-      done = first.0;
+      done = first.answer;
       new = part;
       after = after;
       changed = has_changed answer;
-      brings = of_bytes (λ (os : List OfferForm). part_of_offers os held) bytes o offers read one ∙ first.1.0;
-      makes = of_bytes (λ (os : List OfferForm). applying os held) bytes o offers read one ∙ subst (λ (y : Counts). applying offers held ≡ Ok (y, after)) same second.1.0;
+      brings = of_bytes (λ (os : List OfferForm). part_of_offers os held) bytes o offers read one ∙ first.is_made;
+      makes = of_bytes (λ (os : List OfferForm). applying os held) bytes o offers read one ∙ subst (λ (y : Counts). applying offers held ≡ Ok (y, after)) same second.is_made;
       says = says;
-      count = count_of answer first.0 first.1.1;
+      count = count_of answer first.answer first.is_tagged;
       bytes = wrote (has_changed answer) before now written part none some writes;
     }
 
