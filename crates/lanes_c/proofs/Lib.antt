@@ -25,3 +25,5 @@ pub mod AnswerHandleFields
 pub mod AnswerGivings
 pub mod SkimHandleFields
 pub mod Bringings
+pub mod DialectSteps
+pub mod ChosenDumps

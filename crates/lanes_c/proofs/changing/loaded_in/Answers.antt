@@ -18,9 +18,9 @@ returns-in_err-rows-clause-fault c =
 pub returns-in_err-read_csv-clause-fault : goal.returns-in_err-read_csv-clause-fault
 returns-in_err-read_csv-clause-fault c =
     let p = err_from_is_err_and c.from_residual-in_err-read_csv.result c.from_residual-in_err-read_csv.ensures.1 in
-    rw (p.1, p.2) (text_refused c.args.dialect c.in_err-read_csv.field-0.0 c.in_ok-rows.rows c.args.schema.now c.in_ok-load.load c.read_csv.new.load c.args.csv.now _ c.args.has_heading (ap (λ (w : Bor (List ℕ) × ℕ). w.0.now) c.new-3.ensures)
+    rw (p.1, p.2) (text_refused c.args.dialect c.in_err-read_csv.field-0.0 c.in_ok-rows.rows c.args.schema.now c.in_ok-load.load c.read_csv.new.load c.args.csv.now _ c.args.has_heading (ap (λ (w : Bor (List ℕ) × ℕ). w.0.now) c.new-2.ensures)
     c.in_ok-rows.ensures c.in_ok-load.ensures c.in_err-read_csv.ensures.fault c.in_err-read_csv.ensures.stopped)
 
 pub returns-clause-load : goal.returns-clause-load
 returns-clause-load c =
-    rows_loaded c.args.dialect c.in_ok-rows.rows c.args.schema.now c.in_ok-load.load c.read_csv.new.load c.args.csv.now _ c.args.has_heading (ap (λ (w : Bor (List ℕ) × ℕ). w.0.now) c.new-3.ensures) c.in_ok-rows.ensures c.in_ok-load.ensures c.in_ok-read_csv.ensures.loaded
+    rows_loaded c.args.dialect c.in_ok-rows.rows c.args.schema.now c.in_ok-load.load c.read_csv.new.load c.args.csv.now _ c.args.has_heading (ap (λ (w : Bor (List ℕ) × ℕ). w.0.now) c.new-2.ensures) c.in_ok-rows.ensures c.in_ok-load.ensures c.in_ok-read_csv.ensures.loaded
