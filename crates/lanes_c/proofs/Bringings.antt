@@ -45,9 +45,9 @@ untagged {Y} tag (Ok done) a r is =
 untagged tag (Err e) a r is = absurd cc
 
 -- the count of an apply
-count_of : (answer : Answer) (y : Counts) → OfApply y ≡ answer_of answer → batches_new answer ≡ y.1
+count_of : (answer : Answer) (y : Counts) → OfApply y ≡ answer_of answer → batches_new answer ≡ y.2
 count_of (answers.Applied done) y is =
-    let same : ◌≡◌ {A = Counts} y (done.batches, done.ranges, done.new) = cc in ap (λ (p : Counts). p.1) (sym same)
+    let same : ◌≡◌ {A = Counts} y (done.batches, done.ranges, done.new) = cc in ap (λ (p : Counts). p.2) (sym same)
 count_of (answers.Imported done) y is = absurd cc
 count_of (answers.Deleted done) y is = absurd cc
 count_of (answers.DeletedRows done) y is = absurd cc

@@ -57,7 +57,7 @@ pub record BringsBytes (part : ℕ × List ℕ) (offer : List ℕ) (held : Repli
   pub brings : offer_brought offer held ≡ Ok (done, new)
   pub makes : offer_applied offer held ≡ Ok (done, after)
   pub says : SaysChange changed held after
-  pub count : part.0 ≡ done.1
+  pub count : part.0 ≡ done.2
   pub bytes : part.1 ≡ cond changed (file_of new) []
 
 -- So it is of what is given, or it is refused as the offer is.
