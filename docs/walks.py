@@ -21,7 +21,7 @@ SIBLINGS = {
 }
 # Further ones that belong to a list: of the commands the last one that changes a file, in the crates that such a command touches.
 FURTHER = {
-    "A command of the program": (r"\bForget\b|\bforget\b", ["command_line", "lanes", "program_changes", "program_files", "program_folders", "file_commands", "replica_reports", "replica_changes"]),
+    "A command of the program": (r"\bForget\b|\bforget\b", ["command_line", "lanes", "program_changes", "program_files", "program_folders", "file_commands", "covering_laws", "replica_reports", "replica_changes"]),
 }
 # Below which folders of a crate code is looked for. Files of proofs that are named by a function come with it.
 CODE = ["src/**/*.rt", "specs/*.antt", "proofs/*.antt"]
