@@ -617,7 +617,7 @@ class Table:
             Refused: a fault of the summary or of the file, or `SchemaDiffers`.
         """
         held, given = self._file, arguments.bytes_of("summary", summary)
-        with explaining.of_input(given), explaining.of_tables(lambda: Schema.of(given).words, self._words):
+        with explaining.of_tables(lambda: Schema.of(given).words, self._words), explaining.of_input(given):
             return calls.given(calls.OFFER, self._length() + _ROOM, held, given)
 
     def apply(self: _Self, offer: _Bytes) -> _Self:
@@ -659,7 +659,7 @@ class Table:
 
     def _applied(self: _Self, offer: calls.Input) -> _Self:
         """The table with what an offer brings."""
-        with explaining.of_input(offer), explaining.of_tables(lambda: _words_of(offer), self._words):
+        with explaining.of_tables(lambda: _words_of(offer), self._words), explaining.of_input(offer):
             return self._made(calls.made(calls.APPLY, self._length() + calls.length_of(offer) + _ROOM, self._file, offer))
 
     def _asked(self) -> calls.Opened:

@@ -78,8 +78,8 @@ class Queries(unittest.TestCase):
             ("_ANSWER_ASK", lambda: table.query(sql), wanted),
             ("_PARTIAL", lambda: lanes.finish(table.partial(sql)), wanted),
             ("_ANSWER_FINISH", lambda: lanes.finish(table.partial(sql)), wanted),
-            ("DUMP", table.dump, "A\n" + rows),
-            ("DUMP", lambda: table.dump(names=True), "BATCH,ORDINAL,A\n" + "".join(f"1.1,{n},{n}\n" for n in range(20_000))),
+            ("DUMP_WHERE", table.dump, "A\n" + rows),
+            ("DUMP_WHERE", lambda: table.dump(names=True), "BATCH,ORDINAL,A\n" + "".join(f"1.1,{n},{n}\n" for n in range(20_000))),
         ]:
             made = unittest.mock.Mock(wraps=getattr(calls, name))
             with self.subTest(name), unittest.mock.patch.object(calls, name, made):
