@@ -1,7 +1,7 @@
 /* Partial answers: combined in either order they are the same and give the answer over the merged file; hostile ones, a closed handle
  * and rooms of each size are met as lanes.h has it. */
 #include "opened.h"
-#include "told.h"
+#include "tables.h"
 
 static told cleared(void) {
     told seen;
@@ -42,12 +42,6 @@ static told finished(bytes partial, uint8_t format, size_t room) {
     seen.number = lanes_finish(copy.at, copy.length, format, seen.out, room, &seen.length, &seen.place);
     free(copy.at);
     return seen;
-}
-
-static bytes table_of(const char *words) {
-    bytes made;
-    TAKE(made, lanes_create(text_of(words), strlen(words), out, room, &length, &place));
-    return made;
 }
 
 static bytes loaded(bytes empty, const char *rows, uint32_t origin) {

@@ -1,40 +1,8 @@
 /* Parts of a folder that a program has read: their join, and the turns of a pack and a forget of them. */
 #include "opened.h"
-#include "tables.h"
+#include "part_files.h"
 
 #define TEMPORARY ".part-0123456789abcdef"
-
-enum { NAME = 38 };
-
-/* A part: its bytes and its name. */
-typedef struct {
-    bytes file;
-    uint8_t name[NAME];
-} part;
-
-static part part_with(bytes file) {
-    part made = {file, {0}};
-    bytes name;
-    TAKE(name, lanes_part_name(file.at, file.length, out, room, &length, &place));
-    memcpy(made.name, name.at, NAME);
-    free(name.at);
-    return made;
-}
-
-static bytes table_of(const char *words) {
-    bytes file;
-    TAKE(file, lanes_create(text_of(words), strlen(words), out, room, &length, &place));
-    return file;
-}
-
-/* The part of one batch 1.number of these rows. */
-static part part_of(const char *rows, uint32_t number) {
-    bytes empty = table_of("T A INTEGER"), file;
-    uint64_t word = 1;
-    TAKE(file, lanes_import(empty.at, empty.length, text_of(rows), strlen(rows), true, 1, number, &word, 1, out, room, &length, &place));
-    free(empty.at);
-    return part_with(file);
-}
 
 /* The part of which the rows at which a condition is true are deleted. */
 static part without(part of, const char *condition) {
