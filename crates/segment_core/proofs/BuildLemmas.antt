@@ -87,7 +87,7 @@ row_cell (x ∷ xs) [] c column h e = absurd h
 row_cell (x ∷ xs) (v ∷ vs) zero column h e = let same : x ≡ column = cc in subst (λ (y : ColumnShape). Fits y v) same h.0
 row_cell (x ∷ xs) (v ∷ vs) (suc c) column h e = row_cell xs vs c column h.1 e
 
-row_at : (columns : List ColumnShape) (rows : Batch) (n : ℕ) → AreRows columns rows → n < length rows → IsRow columns (get_or rows n [])
+pub row_at : (columns : List ColumnShape) (rows : Batch) (n : ℕ) → AreRows columns rows → n < length rows → IsRow columns (get_or rows n [])
 row_at columns [] n h l = absurd (omega arith)
 row_at columns (row ∷ rows) zero h l = h.0
 row_at columns (row ∷ rows) (suc n) h l = row_at columns rows n h.1 (omega arith)

@@ -1,5 +1,5 @@
 -- What refutes that a coding is chosen, and what makes a form the canonical one.
-use Rattle.std.proofs.Common.{◌≡◌, ◌↔◌, IsTrue, ℕ, ◌+◌, ◌*◌, ◌/◌, ◌-◌, ◌<◌, ◌≤◌, ◌≤ℤ◌, ◌⊎◌, inl, inr, Bool, true, false, not, ◌&&◌, nat_lt, ℤ, pos, List, length, get_or, refl, sym, ◌∙◌, ap, subst, arith}
+use Rattle.std.proofs.Common.{◌≡◌, ◌↔◌, IsTrue, ℕ, ◌+◌, ◌*◌, ◌/◌, ◌-◌, ◌<◌, ◌≤◌, ◌≤ℤ◌, ◌⊎◌, inl, inr, Bool, true, false, not, ◌&&◌, nat_lt, ℤ, pos, List, refl, sym, ◌∙◌, ap, subst, arith}
 use Rattle.std.specs.Int.{w64, int_gap}
 use Rattle.std.specs.Int.RustNames.{FitsSigned}
 use mir.Val.{to_z, of_z}
@@ -7,18 +7,17 @@ use Rattle.std.proofs.lemmas.Int.{to_z-of_z}
 use Rattle.std.specs.Ordering.{int_eq}
 use Rattle.std.proofs.lemmas.Bool.{cases_lt}
 use Rattle.std.proofs.lemmas.Bool.Decides.{nat_tests, Decides-int_eq}
-use Rattle.transpose_order.specs.Mask.{has, rows_of}
+use Rattle.transpose_order.specs.Mask.{has}
 use Rattle.transpose_order.specs.MaskWords.{has-rows_of}
 use Rattle.bit_interleave.specs.Arithmetic.{least_width}
 use Rattle.bit_interleave.specs.Range.{value_at}
-use Rattle.frame_delta.specs.Extremes.{IsLeastAmong, IsGreatestAmong}
 use Rattle.frame_delta.specs.Frame.{frame_bytes, frame_width, least_frame, least_value, greatest_value, TellApart}
 use Rattle.frame_delta.proofs.ExtremeLemmas.{least_among_is_least, greatest_among_is_greatest}
 use Rattle.frame_delta.proofs.FrameLemmas.{frame_width_is, column_fits}
-use Rattle.run_dictionary.specs.Runs.{RunForm, run_values, least_runs, changes_at}
+use Rattle.run_dictionary.specs.Runs.{least_runs, changes_at}
 use Rattle.segment_core.specs.Coded.{value_in, lane_width_of, values_of, coding_of, least_form, IsCodedForm}
 use Rattle.segment_core.specs.Choice.{choice, least_bytes, place_in_order, IsFirstFewest}
-use Rattle.segment_core.specs.Repeats.{Repeats, RepeatByPlace}
+use Rattle.segment_core.specs.Repeats.{RepeatByPlace}
 use Rattle.segment_core.specs.CanonicalForm.{IsCanonicalForm}
 use Rattle.segment_core.specs.declared.coding.Coding.{Coding}
 use Rattle.segment_core.specs.declared.coded.Coded.{Coded}

@@ -12,6 +12,7 @@ pub mod VectorLemmas
 pub mod GatherLemmas
 pub mod LaneWidths
 pub mod BuildLemmas
+pub mod ArrayLemmas
 pub mod CellLemmas
 pub mod WidthLemmas
 pub mod SegmentLemmas

@@ -1,5 +1,5 @@
 -- What makes coded values the canonical form of a vector whose values they are.
-use Rattle.std.specs.Prelude.{◌≡◌, ◌↔◌, ℕ, ◌<◌, Bool, ℤ, List}
+use Rattle.std.specs.Prelude.{◌≡◌, ℕ, ◌<◌, Bool, ℤ, List}
 use Rattle.std.specs.Int.{w64, cast_unsigned}
 use Rattle.bit_interleave.specs.Range.{value_at}
 use Rattle.bit_interleave.specs.Places.{by_place}

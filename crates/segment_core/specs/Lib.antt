@@ -8,6 +8,7 @@ pub mod CanonicalForm
 pub mod LaterRows
 pub mod CodedVector
 pub mod Segment
+pub mod Arrays
 pub mod Format
 pub mod VectorBytes
 pub mod SegmentBytes

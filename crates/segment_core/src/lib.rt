@@ -1,6 +1,7 @@
 //! Segments: the rows of a batch, column by column, in coded vectors of up to 1024 values.
 #![tactic(auto)]
 
+mod arrays;
 mod boxed;
 mod build;
 mod choice;
@@ -27,6 +28,7 @@ mod vector_writing;
 mod vectors;
 mod writing;
 
+pub use arrays::{CellArray, are_batch, rows_of_arrays};
 pub use boxed::Boxed;
 pub use coded::Coded;
 pub use coded_vector::CodedVector;
@@ -37,4 +39,5 @@ pub use laws::{
     least_form_gives_back, segments_have_bytes,
 };
 pub use segment::Segment;
+pub use vector_bytes::MASK_BYTES;
 pub use writing::{write_number, write_whole};

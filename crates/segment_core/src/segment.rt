@@ -5,10 +5,12 @@ ghost use Rattle.table_model.specs.Outcome.{Acts, Gives};
 ghost use Rattle.table_model.specs.State.{same_rows};
 ghost use Rattle.table_model.specs.Table.{Table, IsBatch, IsTable, row_limit};
 ghost use Rattle.segment_core.specs.Segment.{batch_of, vector_at, vector_count, canonical_forms, canonical_segment, canonical_again, canonical_vectors, widths_of, widths_in, cell_at, column_cells, AreCanonical, HaveSameCells, HasCellsOf, recoded, recoded_found, with_vector, IsSegment};
+ghost use Rattle.segment_core.specs.Arrays.{array_rows, HaveRows};
 ghost use Rattle.segment_core.specs.SegmentBytes.{HasBytesIn};
 ghost use Rattle.segment_core.specs.Coded.{coding_of};
 ghost use Rattle.segment_core.specs.CodedVector.{VectorForm, StandsFor};
 
+use crate::arrays::{CellArray, canonical_arrays};
 use crate::build::{canonical_columns, have_cells, have_length};
 use crate::coded_vector::CodedVector;
 use crate::coding::Coding;
@@ -62,6 +64,27 @@ impl Segment {
         let columns = canonical_columns(alloc, schema, rows)?;
         Ok(Segment {
             rows: rows.len() as u32,
+            known_canonical: true,
+            columns,
+        })
+    }
+
+    /// The same of rows that are given as arrays, one for each column: no rows are made. If memory is refused, an `AllocError`.
+    pub fn build_of_arrays(
+        alloc: Global,
+        schema: &Schema,
+        rows: usize,
+        arrays: &[CellArray],
+    ) -> Result<Segment, AllocError>
+        requires batch { IsBatch schema.now (array_rows rows arrays.now) }
+        requires long { HaveRows rows arrays.now }
+        ensures value { IfOk result (λ s. s ≡ canonical_segment schema.now (array_rows rows arrays.now)) }
+        ensures widths { IfOk result (λ s. widths_in s.forms ≡ widths_of schema.now) }
+        ensures valid { IfOk result (λ s. HasBytesIn schema.now s) }
+    {
+        let columns = canonical_arrays(alloc, schema, rows, arrays)?;
+        Ok(Segment {
+            rows: rows as u32,
             known_canonical: true,
             columns,
         })

@@ -32,7 +32,7 @@ pub(crate) struct Header {
 }
 
 /// How many bytes a mask takes.
-const MASK_BYTES: usize = 128;
+pub const MASK_BYTES: usize = 128;
 
 /// The mask of the 128 bytes at the front. `Truncated` if there are fewer bytes.
 #[tactic(auto, unfolding(crate::specs::VectorBytes::mask))]

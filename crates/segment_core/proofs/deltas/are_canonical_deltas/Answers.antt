@@ -1,7 +1,6 @@
 -- The sums tell the values apart, so that what is asked of the values is seen at the numbers.
 use Rattle.std.proofs.Common.{◌≡◌, ◌↔◌, IsTrue, true, false, ℤ, pos, w64, FitsSigned, refl, sym, ◌∙◌, ap, subst, rules, arith}
 use Rattle.std.proofs.lemmas.Int.{to_z-of_z}
-use Rattle.bit_interleave.specs.Range.{value_at}
 use Rattle.frame_delta.specs.Delta.{DeltaForm}
 use Rattle.segment_core.specs.declared.coded.Coded.TheVariants.{Delta as InDeltas}
 use Rattle.segment_core.proofs.CodedLemmas.{value_at-values_of}

@@ -1,5 +1,5 @@
 -- DELTA is chosen where FOR takes more bytes and no other coding fewer.
-use Rattle.std.proofs.Common.{◌≡◌, ◌↔◌, IsTrue, true, false, not, ℕ, ◌+◌, ◌<◌, ◌≤◌, ℤ, pos, List, refl, sym, ◌∙◌, ap, subst, arith}
+use Rattle.std.proofs.Common.{◌≡◌, ◌↔◌, IsTrue, false, not, ℕ, ◌+◌, ◌<◌, ◌≤◌, ℤ, pos, List, refl, sym, ◌∙◌, ap, subst, arith}
 use Rattle.frame_delta.specs.Frame.{AreAbove, frame_bytes, least_frame}
 use Rattle.frame_delta.specs.Delta.{DeltaForm, delta_bytes, delta_values}
 use Rattle.run_dictionary.specs.Runs.{run_bytes, least_runs}

@@ -1,5 +1,5 @@
 -- The numbers of two places are those of all rows there, and what they need all need.
-use Rattle.std.proofs.Common.{◌≡◌, ◌↔◌, IsTrue, true, false, ℕ, ◌+◌, ◌*◌, ◌<◌, ℤ, pos, List, length, slice_index, refl, sym, ◌∙◌, ap, subst, arith}
+use Rattle.std.proofs.Common.{◌≡◌, ◌↔◌, IsTrue, false, ℕ, ◌+◌, ◌*◌, ◌<◌, ℤ, pos, List, length, slice_index, sym, ◌∙◌, ap, subst, arith}
 use Rattle.bit_interleave.specs.LaneValues.{LaneValues}
 use Rattle.bit_interleave.specs.Places.{by_place, row_of_index}
 use Rattle.bit_interleave.proofs.PlacesLemmas.{by_place-row_of_index, row_of_index-below}

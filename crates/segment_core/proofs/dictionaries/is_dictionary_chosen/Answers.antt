@@ -1,17 +1,12 @@
 -- DICT is chosen where each other coding takes more bytes.
-use Rattle.std.proofs.Common.{◌≡◌, ◌↔◌, IsTrue, true, false, not, ℕ, ◌+◌, ◌<◌, ◌≤◌, ◌≤ℤ◌, ℤ, pos, List, length, slice_index, refl, sym, ◌∙◌, ap, subst, rules, arith}
-use Rattle.bit_interleave.specs.Places.{by_place, row_of_index}
-use Rattle.bit_interleave.proofs.PlacesLemmas.{by_place-row_of_index, row_of_index-below}
-use Rattle.bit_interleave.specs.LaneValues.{LaneValues}
-use Rattle.frame_delta.specs.Frame.{AreAbove, frame_bytes, least_frame}
+use Rattle.std.proofs.Common.{◌≡◌, false, ℕ, ◌+◌, ◌<◌, ◌≤◌, ℤ, List, refl, sym, ◌∙◌, ap, subst, arith}
 use Rattle.frame_delta.specs.Delta.{delta_bytes, least_delta}
 use Rattle.run_dictionary.specs.Runs.{run_bytes, least_runs}
 use Rattle.run_dictionary.specs.Dict.{DictForm, dict_bytes, dict_values}
 use Rattle.segment_core.specs.Choice.{least_bytes}
-use Rattle.segment_core.specs.declared.coding.Coding.TheVariants.{For, Delta, Runs, Dict}
+use Rattle.segment_core.specs.declared.coding.Coding.TheVariants.{For, Runs, Dict}
 use Rattle.segment_core.specs.declared.coded.Coded.TheVariants.{Dict as InDictionary}
-use Rattle.segment_core.proofs.CodedLemmas.{length-values_of, AreInRange-values_of}
-use Rattle.segment_core.proofs.NumberLemmas.{signed_above, dictionary_signed}
+use Rattle.segment_core.proofs.CodedLemmas.{length-values_of}
 use Rattle.segment_core.proofs.ChoiceLemmas.{at_least, choice_of_dictionary}
 use Rattle.segment_core.proofs.ChosenLemmas.{not_first, not_below, dictionary_wins, frame_of_ends}
 use Rattle.segment_core.proofs.dictionaries.is_dictionary_chosen.Goals as goal

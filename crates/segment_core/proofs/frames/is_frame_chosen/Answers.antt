@@ -1,5 +1,5 @@
 -- FOR is chosen where no other coding takes fewer bytes.
-use Rattle.std.proofs.Common.{◌≡◌, ◌↔◌, IsTrue, true, false, ℕ, ◌<◌, ◌≤◌, ℤ, List, not, refl, sym, ◌∙◌, ap, subst}
+use Rattle.std.proofs.Common.{◌≡◌, ◌↔◌, IsTrue, false, ℕ, ◌<◌, ◌≤◌, ℤ, List, not, refl, sym, ◌∙◌, ap, subst}
 use Rattle.frame_delta.specs.Frame.{FrameForm, AreAbove, frame_bytes, frame_values}
 use Rattle.frame_delta.specs.Delta.{delta_bytes, least_delta}
 use Rattle.frame_delta.proofs.FrameLemmas.{length-frame_values}

@@ -1,5 +1,5 @@
 -- The runs start where the values change, so that no row that repeats is a start.
-use Rattle.std.proofs.Common.{◌≡◌, ◌↔◌, ◌&&◌, IsTrue, Bool, true, false, ℕ, ◌<◌, ◌≤◌, ℤ, pos, List, w64, FitsSigned, refl, sym, ◌∙◌, ap, subst, rules, arith}
+use Rattle.std.proofs.Common.{◌≡◌, ◌↔◌, ◌&&◌, IsTrue, Bool, true, false, ℕ, ◌<◌, ℤ, pos, List, w64, FitsSigned, refl, sym, ◌∙◌, ap, subst, rules, arith}
 use Rattle.std.proofs.lemmas.Int.{to_z-of_z}
 use Rattle.transpose_order.specs.Mask.{has}
 use Rattle.transpose_order.specs.MaskWords.{has-rows_of}

@@ -1,5 +1,5 @@
 -- The numbers of two places are those of all rows there, and what they need all need.
-use Rattle.std.proofs.Common.{◌≡◌, ◌↔◌, IsTrue, false, ℕ, ◌+◌, ◌*◌, ◌<◌, ℤ, pos, List, slice_index, refl, sym, ◌∙◌, ap, subst, arith}
+use Rattle.std.proofs.Common.{◌≡◌, ◌↔◌, IsTrue, false, ℕ, ◌+◌, ◌*◌, ◌<◌, ℤ, pos, List, slice_index, sym, ◌∙◌, ap, subst, arith}
 use Rattle.std.specs.Int.{w64, cast_unsigned}
 use Rattle.bit_interleave.specs.Places.{row_of_index}
 use Rattle.bit_interleave.specs.Range.{value_at}

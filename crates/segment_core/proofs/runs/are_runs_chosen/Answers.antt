@@ -1,8 +1,7 @@
 -- RLE is chosen where FOR and DELTA take more bytes and DICT no fewer.
-use Rattle.std.proofs.Common.{◌≡◌, ◌↔◌, IsTrue, Bool, false, not, ℕ, ◌+◌, ◌/◌, ◌<◌, ◌≤◌, ℤ, pos, List, refl, sym, ◌∙◌, ap, subst, arith}
+use Rattle.std.proofs.Common.{◌≡◌, Bool, false, ℕ, ◌+◌, ◌/◌, ◌<◌, ◌≤◌, ℤ, List, refl, sym, ◌∙◌, ap, subst, arith}
 use Rattle.transpose_order.specs.Mask.{rows_of}
 use Rattle.bit_interleave.specs.Range.{value_at}
-use Rattle.frame_delta.specs.Frame.{AreAbove}
 use Rattle.frame_delta.specs.Delta.{delta_bytes, least_delta}
 use Rattle.run_dictionary.specs.Runs.{RunForm, run_bytes, run_values, changes_at}
 use Rattle.run_dictionary.specs.Dict.{dict_bytes, least_dict}
@@ -14,7 +13,6 @@ use Rattle.segment_core.proofs.CodedLemmas.{length-values_of, AreInRange-values_
 use Rattle.segment_core.proofs.ChoiceLemmas.{at_least, choice_of_runs}
 use Rattle.segment_core.proofs.ChosenLemmas.{not_fewest, not_first, not_below, runs_win, frame_of_ends}
 use Rattle.segment_core.proofs.LaterDeltas.{deltas_have_a_bit, bytes_with_a_bit}
-use Rattle.segment_core.proofs.NumberLemmas.{signed_above}
 use Rattle.segment_core.proofs.runs.are_runs_chosen.Goals as goal
 
 pub returns-then-frame_bytes-bytes : goal.returns-then-frame_bytes-bytes

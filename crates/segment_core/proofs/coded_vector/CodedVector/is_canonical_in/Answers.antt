@@ -1,10 +1,9 @@
 -- A canonical vector has the values of the filled vector, in the least form of the chosen coding; and no other vector has.
-use Rattle.std.proofs.Common.{◌≡◌, ◌↔◌, ℤ, IsTrue, Bool, List, refl, sym, ◌∙◌, ap, subst, arith}
+use Rattle.std.proofs.Common.{◌≡◌, ◌↔◌, IsTrue, refl, sym, ◌∙◌, ap, subst, arith}
 use Rattle.segment_core.specs.Fill.{filled}
-use Rattle.segment_core.specs.Coded.{lane_width_of, values_of, coding_of, least_form}
+use Rattle.segment_core.specs.Coded.{lane_width_of, values_of}
 use Rattle.segment_core.specs.Choice.{choice}
 use Rattle.segment_core.specs.CodedVector.{VectorForm, cells_of, IsVector}
-use Rattle.segment_core.specs.Repeats.{Repeats}
 use Rattle.segment_core.specs.CanonicalForm.{IsCanonicalForm}
 use Rattle.segment_core.specs.declared.coded.Coded.{Coded}
 use Rattle.segment_core.proofs.CodedLemmas.{length-values_of}

@@ -1,9 +1,8 @@
 -- The mask has the rows up to the first that has a value, and those that have none.
-use Rattle.std.proofs.Common.{◌≡◌, ℕ, ◌+◌, ◌<◌, ◌≤◌, Bool, true, false, not, cond, ◌&&◌, ◌||◌, nat_le, nat_lt, nat_eq, ℤ, List, length, refl, sym, ◌∙◌, ap, arith}
+use Rattle.std.proofs.Common.{◌≡◌, ℕ, ◌<◌, ◌≤◌, Bool, true, false, not, cond, ◌&&◌, ◌||◌, nat_le, nat_lt, nat_eq, List, refl, sym, ◌∙◌, ap, arith}
 use Rattle.std.proofs.lemmas.Bool.Decides.{nat_tests}
 use Rattle.transpose_order.specs.Mask.{has, rows_of}
 use Rattle.transpose_order.specs.MaskWords.{has-rows_of}
-use Rattle.segment_core.specs.Repeats.{Repeats}
 use Rattle.segment_core.proofs.FillLemmas.{full_is_filled}
 use Rattle.segment_core.proofs.RepeatLemmas.{is_hole, IsRepeating, filled_where_repeats}
 use Rattle.segment_core.proofs.repeats.RepeatingRows.of.Goals as goal
