@@ -14,9 +14,10 @@ use Rattle.hex.specs.Hex.{encode_with, encode_lower, lower_digits}
 use Rattle.hex.proofs.HexLemmas.{length-encode_with}
 use Rattle.sha2.specs.Sha512.{sha512, digest_bytes, final_hash, initial_hash_512}
 use Rattle.sha2.proofs.Facts512.{length-sha512}
+use Rattle.folder_model.specs.Digits.{is_digit}
 use Rattle.folder_model.specs.Parts.{IsNoPart}
 use Rattle.folder_parts.specs.Covers.{folder_parts}
-use Rattle.folder_parts.specs.PartName.{part_name, is_digit, is_part_name}
+use Rattle.folder_parts.specs.PartName.{part_name, is_part_name}
 
 -- ---- a digest has bytes
 

@@ -1,8 +1,9 @@
 -- The name of a part: a function of its bytes.
-use Rattle.std.specs.Prelude.{ℕ, Bool, ◌&&◌, ◌||◌, ◌==◌, nat_le, List, ◌++◌, length, take, drop, codes}
+use Rattle.std.specs.Prelude.{ℕ, Bool, ◌&&◌, ◌==◌, List, ◌++◌, length, take, drop, codes}
 use Rattle.std.specs.List.{list_all}
 use Rattle.table_model.specs.Identifier.{same_text}
 use Rattle.sha2.specs.Sha512.{sha512}
+use Rattle.folder_model.specs.Digits.{is_digit}
 use Rattle.replica_reports.specs.Digests.{first_digits}
 
 -- the first 32 hexadecimal digits of a SHA-512, and `.lanes`
@@ -12,10 +13,6 @@ name_by digest = first_digits digest ++ codes ".lanes"
 -- the first 32 hexadecimal digits of the SHA-512, and `.lanes`
 unfoldable pub part_name : List ℕ → List ℕ
 part_name bytes = name_by (sha512 bytes)
-
--- whether a byte is a digit from 0 to 9 or a letter from a to f
-abbrev pub is_digit : ℕ → Bool
-is_digit b = (nat_le 48 b && nat_le b 57) || (nat_le 97 b && nat_le b 102)
 
 -- whether a name is one that parts have: 32 digits and `.lanes`
 unfoldable pub is_part_name : List ℕ → Bool

@@ -1,8 +1,8 @@
 //! The names of parts: a part is named by its bytes.
 ghost use Rattle.std.specs.Prelude.{◌≡◌, IfOk, string_bytes, Decides};
-ghost use Rattle.folder_parts.specs.PartName.{name_by, part_name, is_digit, is_part_name};
-ghost use Rattle.std.specs.List.{list_all};
+ghost use Rattle.folder_parts.specs.PartName.{name_by, part_name, is_part_name};
 
+use folder_model::has_only_digits;
 use replica_reports::first_digits;
 use sha2::{Digest, Sha512};
 use std::alloc::{AllocError, Global};
@@ -39,20 +39,6 @@ pub fn is_part(alloc: Global, name: &str, bytes: &[u8]) -> Result<bool, AllocErr
     Ok(named.as_str() == name)
 }
 
-/// Whether a byte is a digit of a part's name.
-fn is_digit(byte: u8) -> bool
-    ensures { result ≡ is_digit byte }
-{
-    (48 <= byte && byte <= 57) || (97 <= byte && byte <= 102)
-}
-
-/// Whether all bytes are digits of a part's name.
-fn are_digits(text: &[u8]) -> bool
-    ensures { result ≡ list_all is_digit text.now }
-{
-    text.iter().all(|byte| is_digit(*byte))
-}
-
 /// Whether a name is one that parts have: 32 digits, `0` to `9` and `a` to `f`, and `.lanes`. Whatever has another name is no part.
 #[tactic(auto, unfolding(crate::specs::PartName::is_part_name))]
 pub fn is_part_name(name: &str) -> bool
@@ -63,5 +49,5 @@ pub fn is_part_name(name: &str) -> bool
         return false;
     }
     let (digits, ending) = bytes.split_at(DIGITS);
-    are_digits(digits) && same_text(ending, &ENDING)
+    has_only_digits(digits) && same_text(ending, &ENDING)
 }

@@ -1,13 +1,10 @@
 -- The names of temporaries.
-use Rattle.std.specs.Prelude.{ℕ, Bool, ◌&&◌, ◌||◌, ◌==◌, nat_le, List, length, take, drop, codes}
+use Rattle.std.specs.Prelude.{ℕ, Bool, ◌&&◌, ◌==◌, List, length, take, drop, codes}
 use Rattle.std.specs.List.{list_all}
 use Rattle.std.specs.Str.{bytes_eq}
+use Rattle.folder_model.specs.Digits.{is_digit}
 
--- whether a byte is a digit from 0 to 9 or a letter from a to f
-abbrev pub is_digit : ℕ → Bool
-is_digit b = (nat_le 48 b && nat_le b 57) || (nat_le 97 b && nat_le b 102)
-
--- whether these are 16 such digits
+-- whether these are 16 digits
 abbrev pub are_digits : List ℕ → Bool
 are_digits text = length text == 16 && list_all is_digit text
 
