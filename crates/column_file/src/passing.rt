@@ -7,11 +7,8 @@ ghost use Rattle.segment_core.specs.Format.{Format};
 ghost use Rattle.segment_core.specs.VectorBytes.{coding, coding_tagged, is_width, is_count};
 ghost use Rattle.column_file.specs.Passing.{over, null_flag, over_nulls, form, payload_bytes, over_vector, over_column, over_columns};
 
-use segment_core::{Coding, place_of, read_number};
+use segment_core::{Coding, MASK_BYTES, place_of, read_number};
 use table_model::{Column, Refusal};
-
-/// How many bytes a mask has.
-const MASK_BYTES: usize = 128;
 
 /// The coding of a vector, its width in bits, and how many runs or values of a dictionary it has.
 #[derive(Clone, Copy)]

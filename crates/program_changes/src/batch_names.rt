@@ -3,13 +3,11 @@
 use catalogue_join::Held;
 use column_file::{CONTAINER, read_head, read_name_count};
 use folder_parts::HEAD_BYTES;
+use segment_core::MASK_BYTES;
 use std::alloc::Global;
 use std::mem::replace;
 use table_model::{BatchName, Number, Origin};
 use transpose_order::VECTOR_ROWS;
-
-/// How many bytes a vector takes for each bit of a row, as a mask does.
-const MASK_BYTES: usize = VECTOR_ROWS / 8;
 
 /// How many bytes the greatest field has that is looked at.
 const FIELD_BYTES: usize = 10;

@@ -4,7 +4,7 @@ ghost use Rattle.std.specs.FinMap as map;
 ghost use Rattle.replica_reports.specs.ColumnFigures.{AreFew, IsAtMost, column_vectors, in_coding, joined, mask_bytes, parts_in};
 
 use replica_store::Store;
-use segment_core::{CodedVector, Coding, Segment};
+use segment_core::{CodedVector, Coding, MASK_BYTES, Segment};
 use transpose_order::VECTOR_ROWS;
 
 /// How many vectors of a column have each coding, and how many bytes they take in a file, headers and null masks with them.
@@ -25,15 +25,12 @@ pub(crate) struct ColumnParts {
 /// How many bytes of a vector come before its payload, without a null mask: the flag, the coding, the width and the count.
 const HEADER_BYTES: u64 = 5;
 
-/// How many bytes a null mask takes.
-const MASK_BYTES: u64 = 128;
-
 /// How many bytes a vector's null mask takes.
 fn mask_bytes(vector: &CodedVector) -> u64
     ensures { result ≡ mask_bytes vector.now.nulls }
 {
     match vector.nulls() {
-        Some(_) => MASK_BYTES,
+        Some(_) => MASK_BYTES as u64,
         None => 0,
     }
 }

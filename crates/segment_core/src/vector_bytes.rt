@@ -31,7 +31,7 @@ pub(crate) struct Header {
     pub count: usize,
 }
 
-/// How many bytes a mask takes.
+/// How many bytes a mask takes: a bit for each row of a vector.
 pub const MASK_BYTES: usize = 128;
 
 /// The mask of the 128 bytes at the front. `Truncated` if there are fewer bytes.
