@@ -9,6 +9,7 @@ use Rattle.table_model.specs.Table.{ColumnShape, Table as Schema, first_fault, o
 use Rattle.table_model.specs.declared.refusal.Refusal.{Refusal}
 use Rattle.table_model.specs.declared.refusal.Refusal.TheVariants.{BatchTooLong, EmptyBatch, Full, Memory}
 use Rattle.replica_store.specs.Replica.{batch_limit, unless_fault}
+use Rattle.replica_changes.proofs.ArrayLoads.{rows_first}
 use Rattle.replica_changes.specs.Loads.{LoadForm, added_batch}
 use Rattle.lanes_c.specs.InputColumns.{InputForm, IsNotAdded, RowIsBelow, all_rows, batch_count, input_batch, input_batches, input_load, input_row, input_rows}
 use Rattle.lanes_c.proofs.InputFaults.{IsBelow, faults_append, faults_below, faults_later, later_of}
@@ -52,9 +53,9 @@ not_added load rows e is = go (rows_fault load.schema rows) (nat_lt (length load
     go None true fault room made = absurd cc
     go None false fault room made = let same : e ≡ Full = cc in inr (same, grind (arith, nat_tests, room))
 
-pub refusal_below : (load : LoadForm) (rows : Batch) (e : Refusal) → (added_batch load rows ≡ Err e) ⊎ ((e ≡ Memory) × IsOk (added_batch load rows)) → RowIsBelow row_limit e
-refusal_below load rows e (inr lack) = subst (RowIsBelow row_limit) (sym lack.0) tt
-refusal_below load rows e (inl is) = go (not_added load rows e is)
+pub refusal_below : (load : LoadForm) (rows : Batch) (e : Refusal) → (e ≡ Memory) ⊎ (added_batch load rows ≡ Err e) → RowIsBelow row_limit e
+refusal_below load rows e (inl lack) = subst (RowIsBelow row_limit) (sym lack) tt
+refusal_below load rows e (inr is) = go (not_added load rows e is)
   where
     go : (rows_fault load.schema rows ≡ Some e) ⊎ ((e ≡ Full) × (batch_limit ≤ length load.batches)) → RowIsBelow row_limit e
     go (inl fault) = subst (IsBelow row_limit) fault (rows_below load.schema rows)
@@ -72,15 +73,6 @@ pub none_yet : (table : Schema) (input : InputForm) (load : LoadForm) → load.s
 none_yet table input load same none =
     let zero : min (0 * row_limit) input.rows ≡ 0 = omega arith in
     record { schema = same; batches = none; fits = ap (λ (n : ℕ). first_fault table.columns 0 (input_rows input 0 n)) zero }
-
--- rows of a batch have the fault of a list of rows
-rows_first : (table : Schema) (rows : Batch) → 1 ≤ length rows → length rows ≤ row_limit → rows_fault table rows ≡ first_fault table.columns 0 rows
-unfolding rows_fault
-rows_first table rows some few =
-    let one : (length rows == 0) ≡ false = grind (arith, nat_tests, some) in
-    let short : nat_lt row_limit (length rows) ≡ false = grind (arith, nat_tests, few) in
-    ap (λ (b : Bool). cond b (Some EmptyBatch) (cond (nat_lt row_limit (length rows)) (Some BatchTooLong) (first_fault table.columns 0 rows))) one
-    ∙ ap (λ (b : Bool). cond b (Some BatchTooLong) (first_fault table.columns 0 rows)) short
 
 -- what was added
 added : (load new : LoadForm) (rows : Batch) → added_batch load rows ≡ Ok (tt, new) → (rows_fault load.schema rows ≡ None) × (new ≡ record { schema = load.schema; batches = load.batches ++ (rows ∷ []) })

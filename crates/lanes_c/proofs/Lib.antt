@@ -12,6 +12,7 @@ pub mod CoverageGivings
 pub mod SpreadGivings
 pub mod HeldChanges
 pub mod Expectations
+pub mod InputArrays
 pub mod InputFaults
 pub mod InputLoads
 pub mod SaidAgain

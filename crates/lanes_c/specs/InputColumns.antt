@@ -1,5 +1,5 @@
 -- Columns that a caller gives, as rows of a table: the mirror of the columns that lanes_columns gives.
-use Rattle.std.specs.Prelude.{◌≡◌, ◌⊎◌, ℕ, ◌+◌, ◌*◌, ◌-◌, ◌/◌, ◌%◌, ◌<◌, ◌≤◌, min, Bool, ◌&&◌, ◌||◌, ◌==◌, cond, nat_lt, IsTrue, List, map, length, slice_index, slice_index_or, Option, Some, None, Result, Ok, Err, ℤ, pos}
+use Rattle.std.specs.Prelude.{◌≡◌, ◌⊎◌, ℕ, ◌+◌, ◌*◌, ◌-◌, ◌/◌, ◌%◌, ◌<◌, ◌≤◌, min, Bool, ◌&&◌, ◌||◌, ◌==◌, cond, nat_lt, IsTrue, List, map, take, drop, length, slice_index, slice_index_or, Option, Some, None, Result, Ok, Err, ℤ, pos}
 use Rattle.std.specs.Int.{bit_at}
 use Rattle.std.specs.List.{range_with_len}
 use Rattle.table_model.specs.Reading.{◌>>=◌}
@@ -8,6 +8,7 @@ use Rattle.table_model.specs.Table.{Table as Schema, column_limit, first_fault, 
 use Rattle.table_model.specs.declared.names.BatchName.{BatchName}
 use Rattle.table_model.specs.declared.refusal.Refusal.{Refusal}
 use Rattle.table_model.specs.declared.refusal.Refusal.TheVariants.{Full, Memory, OutOfType, WrongArity}
+use Rattle.segment_core.specs.Arrays.{ArrayForm}
 use Rattle.live_columns.specs.Columns.{stride_of}
 use Rattle.replica_store.specs.Replica.{Replica, batch_limit, unless_fault}
 use Rattle.replica_changes.specs.CommandForms.{Import}
@@ -42,6 +43,24 @@ input_rows input first count = map (input_row input) (range_with_len first count
 -- all rows
 abbrev pub all_rows : InputForm → Batch
 all_rows input = input_rows input 0 input.rows
+
+-- ---- columns as arrays
+
+-- the bits of a column from a row on, of which 8 have a byte, to the column's last one
+abbrev pub column_bits : InputForm → ℕ → ℕ → List ℕ
+column_bits input column first =
+    let at : ℕ = column * stride_of input.rows + first / 8 in
+    take ((column + 1) * stride_of input.rows - at) (drop at input.valid)
+
+-- the cells of a column from a row on, as many as there is a count
+abbrev pub column_array : InputForm → ℕ → ℕ → ℕ → ArrayForm
+column_array input first count column =
+    let at : ℕ = column * input.rows + first in
+    record { values = take (at + count - at) (drop at input.values); valid = column_bits input column first }
+
+-- those of all columns
+abbrev pub input_arrays : InputForm → ℕ → ℕ → List ArrayForm
+input_arrays input first count = map (column_array input first count) (range_with_len 0 input.columns)
 
 -- ---- how many there are
 

@@ -1,16 +1,18 @@
 //! Columns that a caller gives, as the rows of a load.
-ghost use Rattle.std.specs.Prelude.{◌≡◌, ◌⊎◌, ◌<◌, ◌≤◌, ◌+◌, ◌*◌, None, Some, Ok, IfErr, IfOk, OnOk, length};
+ghost use Rattle.std.specs.Prelude.{◌≡◌, ◌⊎◌, ◌<◌, ◌≤◌, ◌+◌, ◌*◌, ◌%◌, None, Some, Ok, IfErr, IfOk, OnOk, length};
 ghost use Rattle.table_model.specs.Table.{column_limit, first_fault, row_limit};
 ghost use Rattle.table_model.specs.declared.refusal.Refusal.TheVariants.{Memory};
+ghost use Rattle.segment_core.specs.Arrays.{HaveRows, array_rows};
 ghost use Rattle.replica_store.specs.Replica.{batch_limit};
 ghost use Rattle.replica_changes.specs.Loads.{added_batch};
-ghost use Rattle.lanes_c.specs.InputColumns.{IsNotAdded, RowIsBelow, all_rows, count_fault, input_batch, input_cell, input_load, input_row, input_rows, is_value, later};
+ghost use Rattle.lanes_c.specs.InputColumns.{IsNotAdded, RowIsBelow, all_rows, column_array, count_fault, input_arrays, input_batch, input_load, input_rows, later};
 
 use live_columns::stride_of;
 use replica_changes::Load;
+use segment_core::CellArray;
 use std::alloc::{AllocError, Global};
 use std::marker::Model;
-use table_model::{MAX_ROWS, MAX_STATE_ROWS, Refusal, Rows, Schema};
+use table_model::{MAX_ROWS, MAX_STATE_ROWS, Refusal, Schema};
 
 /// Columns that a caller gives: as many numbers as cells, one column after another, and a bit for each cell, or none if each is a
 /// value.
@@ -62,54 +64,41 @@ impl<'a> InputColumns<'a> {
         })
     }
 
-    /// Whether a cell is a value.
-    fn is_value(&self, column: usize, row: usize) -> bool
+    /// The cells of a column from a row on, of which 8 have a byte of bits.
+    fn array(&self, column: usize, first: usize, count: usize) -> CellArray<'a>
         requires column { column < self.now.columns }
-        requires row { row < self.now.rows }
-        ensures { result ≡ is_value self.now column row }
+        requires within { first + count ≤ self.now.rows }
+        requires whole { first % 8 ≡ 0 }
+        ensures { result ≡ column_array self.now first count column }
     {
+        let at = column * self.rows + first;
+        let values = &self.values[at..at + count];
         if self.valid.is_empty() {
-            return true;
+            return CellArray::new(values, self.valid);
         }
-        let byte = self.valid[column * stride_of(self.rows) + row / 8];
-        byte >> (row % 8) & 1 == 1
+        let stride = stride_of(self.rows);
+        let valid = &self.valid[column * stride + first / 8..(column + 1) * stride];
+        CellArray::new(values, valid)
     }
 
-    /// A cell.
-    fn cell(&self, column: usize, row: usize) -> Option<i128>
-        requires column { column < self.now.columns }
-        requires row { row < self.now.rows }
-        ensures { result ≡ input_cell self.now column row }
+    /// The cells of all columns from a row on, of which 8 have a byte of bits.
+    fn arrays(
+        &self,
+        alloc: Global,
+        first: usize,
+        count: usize,
+    ) -> Result<Vec<CellArray<'a>>, AllocError>
+        requires within { first + count ≤ self.now.rows }
+        requires whole { first % 8 ≡ 0 }
+        ensures arrays { IfOk result (λ arrays. arrays.items ≡ input_arrays self.now first count) }
+        ensures long { IfOk result (λ arrays. HaveRows count arrays.items) }
+        ensures rows { IfOk result (λ arrays. array_rows count arrays.items ≡ input_rows self.now first count) }
     {
-        if !self.is_value(column, row) {
-            return None;
+        let mut arrays = Vec::with_capacity(alloc, self.columns)?;
+        for column in 0..self.columns {
+            arrays.push(self.array(column, first, count))?;
         }
-        Some(i128::from(self.values[column * self.rows + row]))
-    }
-
-    /// Writes the cells of a row.
-    fn fill_row(&self, row: usize, cells: &mut [Option<i128>])
-        requires columns { length cells.old ≡ self.now.columns }
-        requires row { row < self.now.rows }
-        ensures { cells.new ≡ input_row self.now row }
-    {
-        for column in 0..cells.len() {
-            cells[column] = self.cell(column, row);
-        }
-    }
-
-    /// A number of rows from one on.
-    fn rows(&self, alloc: Global, first: usize, count: usize) -> Result<Rows, AllocError>
-        requires { first + count ≤ self.now.rows }
-        ensures { IfOk result (λ rows. rows ≡ input_rows self.now first count) }
-    {
-        let mut rows = Rows::new(alloc);
-        let mut cells = vec![in alloc; None; self.columns]?;
-        for index in 0..count {
-            self.fill_row(first + index, cells.as_mut_slice());
-            rows.push_row(cells.as_slice())?;
-        }
-        Ok(rows)
+        Ok(arrays)
     }
 
     /// Adds the batch of an index, from 0, to a load.
@@ -121,8 +110,8 @@ impl<'a> InputColumns<'a> {
         let all = self.rows;
         let first = index * MAX_ROWS;
         let count = MAX_ROWS.min(all - first);
-        let rows = self.rows(alloc, first, count)?;
-        match load.add_batch(alloc, &rows) {
+        let arrays = self.arrays(alloc, first, count)?;
+        match load.add_arrays(alloc, count, arrays.as_slice()) {
             Ok(()) => Ok(()),
             Err(refusal) => Err(later(refusal, first)),
         }

@@ -1,3 +1,4 @@
+pub mod ArrayLoads
 pub mod CommandsBring
 pub mod CommandSteps
 pub mod CsvLoading

@@ -1,7 +1,9 @@
 //! Loads: coded batches that wait for their names.
-ghost use Rattle.std.specs.Prelude.{◌≡◌, ◌+◌, ◌<◌, ◌≤◌, length, Ok, IfOk};
+ghost use Rattle.std.specs.Prelude.{◌≡◌, ◌⊎◌, ◌+◌, ◌<◌, ◌≤◌, length, Ok, Err, IfErr, IfOk, OnOk};
 ghost use Rattle.catalogue_join.specs.Run.{name_at};
 ghost use Rattle.table_model.specs.Outcome.{Acts, Gives};
+ghost use Rattle.table_model.specs.declared.refusal.Refusal.TheVariants.{Memory};
+ghost use Rattle.segment_core.specs.Arrays.{HaveRows, array_rows};
 ghost use Rattle.replica_store.specs.Exchange.{AreOffered};
 ghost use Rattle.replica_store.specs.Replica.{batch_limit};
 ghost use Rattle.replica_store.specs.Forgets.{row_count};
@@ -10,7 +12,7 @@ ghost use Rattle.replica_changes.specs.Loads.{added_batch, empty_load, batches_i
 use catalogue_join::Tombs;
 use replica_reports::live_count;
 use replica_store::MAX_BATCHES;
-use segment_core::Segment;
+use segment_core::{CellArray, Segment, are_batch, rows_of_arrays};
 use std::alloc::{AllocError, Global};
 use std::marker::Model;
 use table_model::{BatchName, Number, Refusal, Rows, Schema, check_rows};
@@ -58,6 +60,33 @@ impl Load {
             return Err(Refusal::Full);
         }
         let segment = Segment::build(alloc, &self.schema, rows)?;
+        self.segments.push(segment)?;
+        Ok(())
+    }
+
+    /// Codes columns that are given as arrays of as many rows as one more batch. No rows are made if each number, also that of a null, is a
+    /// value of its column's type.
+    ///
+    /// Refused are `Memory`, and what [`Load::add_batch`] refuses of their rows. A refused call leaves the load as it was.
+    pub fn add_arrays(
+        &mut self,
+        alloc: Global,
+        rows: usize,
+        arrays: &[CellArray],
+    ) -> Result<(), Refusal>
+        requires { HaveRows rows arrays.now }
+        ensures added { OnOk result (added_batch self.old (array_rows rows arrays.now) ≡ Ok (tt, self.new)) }
+        ensures kept { IfErr result (λ _. self.new ≡ self.old) }
+        ensures refused { IfErr result (λ e. (e ≡ Memory) ⊎ (added_batch self.old (array_rows rows arrays.now) ≡ Err e)) }
+    {
+        if !are_batch(&self.schema, rows, arrays) {
+            let made = rows_of_arrays(alloc, rows, arrays)?;
+            return self.add_batch(alloc, &made);
+        }
+        if self.segments.len() >= MAX_BATCHES {
+            return Err(Refusal::Full);
+        }
+        let segment = Segment::build_of_arrays(alloc, &self.schema, rows, arrays)?;
         self.segments.push(segment)?;
         Ok(())
     }
