@@ -169,27 +169,6 @@ module _ (reliance : Reliance) (relied : List (List ℕ)) (held : Replica) (many
 
 -- ---- what is kept
 
-kept_on : (parts : Parts) (bytes : List ℕ) (calls h : List Call) → IsKept parts bytes h → IsKept parts bytes (calls ++ h)
-kept_on parts bytes [] h kept = kept
-kept_on parts bytes (Settled true ∷ calls) h kept = inr (kept_on parts bytes calls h kept)
-kept_on parts bytes (call ∷ calls) h kept = kept_on parts bytes calls h kept
-
--- it stays so
-pub kept_later : (parts : Parts) (names : List (List ℕ)) (before mid after : List Call) → Follows mid after → AreKept parts names before mid → AreKept parts names before after
-kept_later parts names before mid after then are name among = by (are name among)
-  where
-    by : IsKeptOrGone parts name before mid → IsKeptOrGone parts name before after
-    by (inl none) = inl (has_before (FindsNone name) before mid after then none)
-    by (inr (bytes, found, kept)) = inr (bytes, has_before (Finds name bytes) before mid after then found, λ named. subst (λ (l : List Call). IsKept parts bytes l) (sym then.1) (kept_on parts bytes then.0 mid (kept named)))
-
--- none is to be kept
-pub none_kept : (parts : Parts) (names : List (List ℕ)) (h : List Call) → names ≡ [] → AreKept parts names h h
-none_kept parts names h none name among = absurd (subst (λ (l : List (List ℕ)). Among name l) none among)
-
-pub on_ok : {T E P : Type 0} (r : Result T E) → P → OnOk r P
-on_ok (Ok x) p = p
-on_ok (Err e) p = tt
-
 any_of : (P Q : Call → Type 0) → ((call : Call) → P call → Q call) → (calls : List Call) → AnyIs P calls → AnyIs Q calls
 any_of P Q so [] any = absurd any
 any_of P Q so (call ∷ calls) (inl here) = inl (so call here)

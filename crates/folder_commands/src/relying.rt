@@ -7,26 +7,13 @@ ghost use Rattle.folder_protocol.specs.Causes.{Fails, HasCall, LookCause, IsName
 ghost use Rattle.folder_protocol.specs.Goes.{GoesInTurn};
 ghost use Rattle.folder_protocol.specs.Keeping.{AreKept};
 ghost use Rattle.folder_protocol.specs.Premises.{MayPut};
-ghost use Rattle.folder_protocol.specs.Linking.{GoesPlainly, LinksOnly, LinksNone, WasSo, Watches, Each, One};
+ghost use Rattle.folder_protocol.specs.Linking.{LinksOnly, LinksNone, WasSo, Watches, Each, One};
 ghost use Rattle.folder_parts.specs.Covers.{folder_parts};
 ghost use Rattle.folder_commands.specs.Relying.{AreLeft};
 
-use folder_protocol::{self, Folder, Outcome, Taker, keep_all};
+use folder_protocol::{self, Folder, Outcome, Taker};
 use std::alloc::Global;
 use std::io;
-
-/// Has the parts of these names on the disk, if there are any.
-fn keep_relied<F: Folder>(alloc: Global, folder: &mut F, relied: &[String]) -> io::Result<()>
-    ensures in_turn { (parts : Parts) → GoesInTurn parts (F.history folder.old) (F.history folder.new) }
-    ensures kept { (parts : Parts) → OnOk result (AreKept parts (map string_bytes relied.now) (F.history folder.old) (F.history folder.new)) }
-    ensures fails { OnErr result (HasCall Fails (F.history folder.old) (F.history folder.new)) }
-    ensures plain { GoesPlainly (F.history folder.old) (F.history folder.new) }
-{
-    if relied.is_empty() {
-        return Ok(());
-    }
-    keep_all(alloc, folder, relied)
-}
 
 /// Puts a part of this name and with these bytes into a folder, by a temporary of a new name, once the parts of some other names, on
 /// which it relies, are on the disk. If one of those can't be synced nothing is put.
@@ -54,8 +41,7 @@ pub fn keep_and_put<F: Folder>(
     // It changes no lock.
     ensures locks { lock_of (F.history folder.new) ≡ lock_of (F.history folder.old) }
 {
-    keep_relied(alloc, folder, relied)?;
-    folder_protocol::put(alloc, folder, temporary, name, bytes)
+    folder_protocol::keep_and_put(alloc, folder, relied, temporary, name, bytes)
 }
 
 /// The same if what judges the folder's parts wants none that is there, as [`put_judged`](folder_protocol::put_judged) does it.
@@ -94,6 +80,5 @@ pub fn keep_and_put_judged<F: Folder, T: Taker>(
     // It leaves no lock.
     ensures unlocked { lock_of (F.history folder.old) ≡ None → lock_of (F.history folder.new) ≡ None }
 {
-    keep_relied(alloc, folder, relied)?;
-    folder_protocol::put_judged(alloc, folder, temporary, name, bytes, judge)
+    folder_protocol::keep_and_put_judged(alloc, folder, relied, temporary, name, bytes, judge)
 }

@@ -11,7 +11,7 @@ use Rattle.folder_model.specs.Parts.{Parts}
 use Rattle.folder_model.specs.Turn.{Idle, Seen, Whole, synced, HasRead, WasSynced, IsKept, HasMissed, IsGone}
 use Rattle.folder_protocol.specs.Causes.{FindsNone, Fails, HasCall}
 use Rattle.folder_protocol.proofs.Causing.{Follows, follows_none, follows_on, has_now, has_later, has_before}
-use Rattle.folder_protocol.specs.Keeping.{Finds, IsSyncedOrGone, IsKeptOrGone, IsSyncedOrMissed}
+use Rattle.folder_protocol.specs.Keeping.{AreKept, Finds, IsSyncedOrGone, IsKeptOrGone, IsSyncedOrMissed}
 use Rattle.folder_protocol.proofs.Lines.{has_read_later}
 
 -- a part that was read and synced
@@ -114,3 +114,24 @@ relied_settled (Ok x) parts names before mid after is each = λ name among b nam
     (λ missed. inr (subst (λ (l : List Call). IsGone parts b l) (sym is) (inl missed)))
     (each name among b named has)
 relied_settled (Err e) parts names before mid after is each = tt
+
+-- ---- what stays kept
+
+-- a part, after some calls more
+kept_on : (parts : Parts) (bytes : List ℕ) (calls h : List Call) → IsKept parts bytes h → IsKept parts bytes (calls ++ h)
+kept_on parts bytes [] h kept = kept
+kept_on parts bytes (Settled true ∷ calls) h kept = inr (kept_on parts bytes calls h kept)
+kept_on parts bytes (call ∷ calls) h kept = kept_on parts bytes calls h kept
+
+-- and so do all of some names
+pub kept_later : (parts : Parts) (names : List (List ℕ)) (before mid after : List Call) → Follows mid after → AreKept parts names before mid → AreKept parts names before after
+kept_later parts names before mid after later are name among = by (are name among)
+  where
+    by : IsKeptOrGone parts name before mid → IsKeptOrGone parts name before after
+    by (inl none) = inl (has_before (FindsNone name) before mid after later none)
+    by (inr (bytes, found, kept)) = inr (bytes, has_before (Finds name bytes) before mid after later found, λ named. subst (λ (l : List Call). IsKept parts bytes l) (sym later.1) (kept_on parts bytes later.0 mid (kept named)))
+
+-- what is so is so of an answer
+pub on_ok : {T E P : Type 0} (r : Result T E) → P → OnOk r P
+on_ok (Ok x) p = p
+on_ok (Err e) p = tt

@@ -1,43 +1,10 @@
--- What it relies on is kept, and then the part is put.
+-- What is brought is left, since what it relies on is kept and the part is stored.
 use Rattle.std.specs.Prelude.{map, string_bytes}
-use Rattle.std.proofs.Common.{◌∙◌}
 use Rattle.folder_protocol.specs.declared.putting.Outcome.TheVariants.{OnDisk}
-use Rattle.folder_protocol.proofs.Causing.{all_named_later, fails_later, looks_later}
-use Rattle.folder_protocol.proofs.Lines.{joins}
-use Rattle.folder_protocol.proofs.Linking.{plain_lock}
 use Rattle.folder_parts.specs.Covers.{folder_parts}
-use Rattle.folder_commands.proofs.Relied.{all_left, kept_later, on_ok}
+use Rattle.folder_commands.proofs.Relied.{all_left}
 use Rattle.folder_commands.proofs.relying.keep_and_put.Goals as goal
-
-pub returns-clause-in_turn : goal.returns-clause-in_turn
-returns-clause-in_turn g c = λ parts may. joins parts _ _ _ (c.keep_relied.ensures.in_turn parts) (c.put.ensures.in_turn parts may)
-
-pub returns-clause-kept : goal.returns-clause-kept
-returns-clause-kept g c = λ parts may.
-    let puts = c.put.ensures.in_turn parts may in
-    on_ok c.put.result (kept_later parts (map string_bytes c.args.relied.now) _ _ _ (puts.0, puts.1) (c.in_ok-keep_relied.ensures.kept parts))
 
 pub returns-clause-left : goal.returns-clause-left
 returns-clause-left g c = λ may.
-    all_left c.put.result OnDisk c.args.bytes.now (map string_bytes c.args.relied.now) _ _ (returns-clause-kept g c folder_parts may) (c.put.ensures.stored folder_parts may.0)
-
-pub returns-clause-cause : goal.returns-clause-cause
-returns-clause-cause g c =
-    let keeps = c.keep_relied.ensures.in_turn folder_parts in
-    looks_later c.put.result c.args.name.now c.args.bytes.now _ _ _ (keeps.0, keeps.1) c.put.ensures.cause
-
-pub returns-clause-fails : goal.returns-clause-fails
-returns-clause-fails g c =
-    let keeps = c.keep_relied.ensures.in_turn folder_parts in
-    fails_later c.put.result _ _ _ (keeps.0, keeps.1) c.put.ensures.fails
-
-pub returns-clause-named : goal.returns-clause-named
-returns-clause-named g c =
-    let keeps = c.keep_relied.ensures.in_turn folder_parts in
-    all_named_later c.put.result c.args.name.now _ _ _ (keeps.0, keeps.1) c.put.ensures.named
-
-pub returns-in_err-keep_relied-clause-locks : goal.returns-in_err-keep_relied-clause-locks
-returns-in_err-keep_relied-clause-locks g c = plain_lock _ _ c.keep_relied.ensures.plain
-
-pub returns-clause-locks : goal.returns-clause-locks
-returns-clause-locks g c = c.put.ensures.locks ∙ plain_lock _ _ c.keep_relied.ensures.plain
+    all_left c.keep_and_put.result OnDisk c.args.bytes.now (map string_bytes c.args.relied.now) _ _ (c.keep_and_put.ensures.kept folder_parts may) (c.keep_and_put.ensures.stored folder_parts may.0)

@@ -1,65 +1,11 @@
--- What it relies on is kept, and then the part is put if none is wanted.
-use Rattle.std.specs.Prelude.{◌≡◌, List, Some, None, map, string_bytes}
-use Rattle.std.proofs.Common.{◌∙◌}
-use Rattle.folder_model.specs.Call.{Call}
+-- What is brought is left, since what it relies on is kept and the part is stored.
+use Rattle.std.specs.Prelude.{Some, map, string_bytes}
 use Rattle.folder_protocol.specs.declared.putting.Outcome.TheVariants.{OnDisk}
-use Rattle.folder_protocol.proofs.Causing.{fails_later, follows_none, looked_later, some_named_between}
-use Rattle.folder_protocol.proofs.Lines.{joins}
-use Rattle.folder_protocol.proofs.Linking.{plain_follows, plain_lock, plain_links, links_none, links_more, all_links_between, all_was_between, some_was_between}
-use Rattle.folder_protocol.specs.Linking.{Watches, Each, One}
 use Rattle.folder_parts.specs.Covers.{folder_parts}
-use Rattle.folder_commands.proofs.Relied.{all_left, kept_later, on_ok}
+use Rattle.folder_commands.proofs.Relied.{all_left}
 use Rattle.folder_commands.proofs.relying.keep_and_put_judged.Goals as goal
-
-pub returns-clause-in_turn : goal.returns-clause-in_turn
-returns-clause-in_turn g c = λ parts may. joins parts _ _ _ (c.keep_relied.ensures.in_turn parts) (c.put_judged.ensures.in_turn parts may)
-
-pub returns-clause-kept : goal.returns-clause-kept
-returns-clause-kept g c = λ parts may.
-    let puts = c.put_judged.ensures.in_turn parts may in
-    on_ok c.put_judged.result (kept_later parts (map string_bytes c.args.relied.now) _ _ _ (puts.0, puts.1) (c.in_ok-keep_relied.ensures.kept parts))
 
 pub returns-clause-left : goal.returns-clause-left
 returns-clause-left g c = λ may.
-    all_left c.put_judged.result (Some OnDisk) c.args.bytes.now (map string_bytes c.args.relied.now) _ _ (returns-clause-kept g c folder_parts may) (c.put_judged.ensures.stored folder_parts may)
-
-pub returns-clause-cause : goal.returns-clause-cause
-returns-clause-cause g c =
-    let keeps = c.keep_relied.ensures.in_turn folder_parts in
-    looked_later c.put_judged.result c.args.name.now c.args.bytes.now _ _ _ (keeps.0, keeps.1) c.put_judged.ensures.cause
-
-pub returns-clause-fails : goal.returns-clause-fails
-returns-clause-fails g c =
-    let keeps = c.keep_relied.ensures.in_turn folder_parts in
-    fails_later c.put_judged.result _ _ _ (keeps.0, keeps.1) c.put_judged.ensures.fails
-
-pub returns-clause-named : goal.returns-clause-named
-returns-clause-named g c = some_named_between c.put_judged.result c.args.name.now _ _ _ _ (plain_follows _ _ c.keep_relied.ensures.plain) (follows_none _) c.put_judged.ensures.named
-
-pub returns-in_err-keep_relied-clause-links : goal.returns-in_err-keep_relied-clause-links
-returns-in_err-keep_relied-clause-links g c = plain_links (Watches (Each (g.T.Taker.passes c.args.judge.now))) _ _ c.keep_relied.ensures.plain
-
-pub returns-clause-links : goal.returns-clause-links
-returns-clause-links g c =
-    let P = Watches (Each (g.T.Taker.passes c.args.judge.now)) in
-    links_more P _ _ _ (plain_links P _ _ c.keep_relied.ensures.plain) c.put_judged.ensures.links
-
-pub returns-clause-watched : goal.returns-clause-watched
-returns-clause-watched g c =
-    some_was_between c.put_judged.result (Watches (Each (g.T.Taker.passes c.args.judge.now))) _ _ _ _ (plain_follows _ _ c.keep_relied.ensures.plain) (follows_none _) c.put_judged.ensures.watched
-
-pub returns-clause-wanted : goal.returns-clause-wanted
-returns-clause-wanted g c =
-    all_was_between c.put_judged.result (λ answer. answer ≡ None) (Watches (One (g.T.Taker.wanted c.args.judge.now))) _ _ _ _ (plain_follows _ _ c.keep_relied.ensures.plain) (follows_none _)
-    c.put_judged.ensures.wanted
-
-pub returns-clause-unlinked : goal.returns-clause-unlinked
-returns-clause-unlinked g c =
-    let P = λ (l : List Call). ⊥ in
-    all_links_between c.put_judged.result (λ answer. answer ≡ None) P _ _ _ _ (plain_links P _ _ c.keep_relied.ensures.plain) (links_none P _) c.put_judged.ensures.unlinked
-
-pub returns-in_err-keep_relied-clause-unlocked : goal.returns-in_err-keep_relied-clause-unlocked
-returns-in_err-keep_relied-clause-unlocked g c = λ none. plain_lock _ _ c.keep_relied.ensures.plain ∙ none
-
-pub returns-clause-unlocked : goal.returns-clause-unlocked
-returns-clause-unlocked g c = λ none. c.put_judged.ensures.unlocked (plain_lock _ _ c.keep_relied.ensures.plain ∙ none)
+    all_left c.keep_and_put_judged.result (Some OnDisk) c.args.bytes.now (map string_bytes c.args.relied.now) _ _ (c.keep_and_put_judged.ensures.kept folder_parts may)
+    (c.keep_and_put_judged.ensures.stored folder_parts may)

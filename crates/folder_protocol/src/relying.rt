@@ -1,0 +1,97 @@
+//! How a part is put that relies on parts which the folder has.
+ghost use Rattle.std.specs.Prelude.{◌≡◌, Some, None, map, string_bytes, IfOk, IfSome, OnOk, OnErr};
+ghost use Rattle.folder_model.specs.Call.{lock_of};
+ghost use Rattle.folder_model.specs.Parts.{Parts};
+ghost use Rattle.folder_model.specs.Turn.{IsStored};
+ghost use Rattle.folder_protocol.specs.Causes.{Fails, HasCall, LookCause, IsNamed};
+ghost use Rattle.folder_protocol.specs.Goes.{GoesInTurn};
+ghost use Rattle.folder_protocol.specs.Keeping.{AreKept};
+ghost use Rattle.folder_protocol.specs.Premises.{MayPut};
+ghost use Rattle.folder_protocol.specs.Linking.{GoesPlainly, LinksOnly, LinksNone, WasSo, Watches, Each, One};
+
+use crate::Folder;
+use crate::judging::put_judged;
+use crate::keeping::keep_all;
+use crate::putting::{Outcome, put};
+use crate::taking::Taker;
+use std::alloc::Global;
+use std::io;
+
+/// Has the parts of these names on the disk, if there are any.
+fn keep_relied<F: Folder>(alloc: Global, folder: &mut F, relied: &[String]) -> io::Result<()>
+    ensures in_turn { (parts : Parts) → GoesInTurn parts (F.history folder.old) (F.history folder.new) }
+    ensures kept { (parts : Parts) → OnOk result (AreKept parts (map string_bytes relied.now) (F.history folder.old) (F.history folder.new)) }
+    ensures fails { OnErr result (HasCall Fails (F.history folder.old) (F.history folder.new)) }
+    ensures plain { GoesPlainly (F.history folder.old) (F.history folder.new) }
+{
+    if relied.is_empty() {
+        return Ok(());
+    }
+    keep_all(alloc, folder, relied)
+}
+
+/// Puts a part of this name and with these bytes into a folder, by a temporary of a new name, once the parts of some other names, on
+/// which it relies, are on the disk. If one of those can't be synced nothing is put.
+pub fn keep_and_put<F: Folder>(
+    alloc: Global,
+    folder: &mut F,
+    relied: &[String],
+    temporary: &str,
+    name: &str,
+    bytes: &[u8],
+) -> io::Result<Outcome>
+    // Each call is in turn.
+    ensures in_turn { (parts : Parts) → MayPut parts temporary.now name.now bytes.now → GoesInTurn parts (F.history folder.old) (F.history folder.new) }
+    // Each part that it relies on is kept, or gone.
+    ensures kept { (parts : Parts) → MayPut parts temporary.now name.now bytes.now → OnOk result (AreKept parts (map string_bytes relied.now) (F.history folder.old) (F.history folder.new)) }
+    // Once the new part is on the disk it is stored.
+    ensures stored { (parts : Parts) → name.now ≡ parts.name_of bytes.now → IfOk result (λ how. how ≡ Outcome.OnDisk → IsStored parts bytes.now (F.history folder.new)) }
+    // Any other answer has its cause: a sync that failed, no file, or other bytes; and so has an error: a call that failed.
+    ensures cause { IfOk result (λ how. LookCause how name.now bytes.now (F.history folder.old) (F.history folder.new)) }
+    ensures fails { OnErr result (HasCall Fails (F.history folder.old) (F.history folder.new)) }
+    // The file was given its name, or another file had it.
+    ensures named { IfOk result (λ how. IsNamed how name.now (F.history folder.old) (F.history folder.new)) }
+    // It changes no lock.
+    ensures locks { lock_of (F.history folder.new) ≡ lock_of (F.history folder.old) }
+{
+    keep_relied(alloc, folder, relied)?;
+    put(alloc, folder, temporary, name, bytes)
+}
+
+/// The same if what judges the folder's parts wants none that is there, as [`put_judged`] does it.
+///
+/// None if a name is there that is wanted: nothing is put then. Take what came, and begin anew.
+pub fn keep_and_put_judged<F: Folder, T: Taker>(
+    alloc: Global,
+    folder: &mut F,
+    relied: &[String],
+    temporary: &str,
+    name: &str,
+    bytes: &[u8],
+    judge: &T,
+) -> io::Result<Option<Outcome>>
+    // Each call is in turn.
+    ensures in_turn { (parts : Parts) → MayPut parts temporary.now name.now bytes.now → GoesInTurn parts (F.history folder.old) (F.history folder.new) }
+    // Each part that it relies on is kept, or gone.
+    ensures kept { (parts : Parts) → MayPut parts temporary.now name.now bytes.now → OnOk result (AreKept parts (map string_bytes relied.now) (F.history folder.old) (F.history folder.new)) }
+    // Once the new part is on the disk it is stored.
+    ensures stored { (parts : Parts) → MayPut parts temporary.now name.now bytes.now → IfOk result (λ answer. answer ≡ Some Outcome.OnDisk → IsStored parts bytes.now (F.history folder.new)) }
+    // Any other answer but None has its cause: a sync that failed, no file, or other bytes; and so has an error: a call that failed.
+    ensures cause { IfOk result (λ answer. IfSome answer (λ how. LookCause how name.now bytes.now (F.history folder.old) (F.history folder.new))) }
+    ensures fails { OnErr result (HasCall Fails (F.history folder.old) (F.history folder.new)) }
+    // If it answers what came of the part, the file was given its name, or another file had it.
+    ensures named { IfOk result (λ answer. IfSome answer (λ how. IsNamed how name.now (F.history folder.old) (F.history folder.new))) }
+    // Each call that was to give a file a name was made under the exclusive lock, held since before a listing that gave only names that may
+    // be passed over, whatever the answer is.
+    ensures links { LinksOnly (Watches (Each (T.passes judge.now))) (F.history folder.old) (F.history folder.new) }
+    // There was such a listing, if the answer is not None; and None if a listing under that lock gave a name that is wanted. Then no file
+    // was given a name.
+    ensures watched { IfOk result (λ answer. IfSome answer (λ how. WasSo (Watches (Each (T.passes judge.now))) (F.history folder.old) (F.history folder.new))) }
+    ensures wanted { IfOk result (λ answer. answer ≡ None → WasSo (Watches (One (T.wanted judge.now))) (F.history folder.old) (F.history folder.new)) }
+    ensures unlinked { IfOk result (λ answer. answer ≡ None → LinksNone (F.history folder.old) (F.history folder.new)) }
+    // It leaves no lock.
+    ensures unlocked { lock_of (F.history folder.old) ≡ None → lock_of (F.history folder.new) ≡ None }
+{
+    keep_relied(alloc, folder, relied)?;
+    put_judged(alloc, folder, temporary, name, bytes, judge)
+}
