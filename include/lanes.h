@@ -32,10 +32,10 @@
 #include <stdint.h>
 
 /* The version that this header is of. lanes_version answers that of the library that is loaded. */
-#define LANES_VERSION "0.11.0"
+#define LANES_VERSION "0.12.0"
 
-/* The same as a number, for #if: 1,000,000 times the first number, 1,000 times the second, and the third, so that 0.11.0 is 11000. */
-#define LANES_VERSION_NUMBER 11000
+/* The same as a number, for #if: 1,000,000 times the first number, 1,000 times the second, and the third, so that 0.12.0 is 12000. */
+#define LANES_VERSION_NUMBER 12000
 
 #ifdef __cplusplus
 extern "C" {
@@ -901,7 +901,7 @@ typedef struct lanes_refused {
 size_t lanes_explain(const lanes_refused *refused, const uint8_t *text, size_t text_length, const uint8_t *table, size_t table_length,
                      const uint8_t *null_word, size_t null_word_length, const uint8_t *columns, size_t columns_length, uint8_t *out, size_t room);
 
-/* Gives the library's version, as "0.11.0", without a byte 0 at its end, and answers how many bytes it has. It is written if it
+/* Gives the library's version, as "0.12.0", without a byte 0 at its end, and answers how many bytes it has. It is written if it
  * fits. */
 size_t lanes_version(uint8_t *out, size_t room);
 

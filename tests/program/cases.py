@@ -120,7 +120,7 @@ CASES = [
     Case("help names the commands in groups, and the pages", ["--help"], 0, [b"Usage: lanes <COMMAND>", *(f"\n  {name} ".encode() for name in COMMANDS), b"One table, in a file or a folder:\n", b"Between sites:\n", b"Over many machines:\n", b"Scripts:\n", b"--version", b"docs/COMMANDS.md", b"docs/SQL.md"]),
     Case("help of a command shows an example and names the page of the script language", ["run", "--help"], 0, [b"Usage: lanes run [OPTIONS] [SCRIPT]", b"--explain", b"table 2 T A SMALLINT", b"docs/FORMATS.md"]),
     Case("help of merge says what becomes of the file that is written", ["merge", "--help"], 0, [b"Usage: lanes merge [OPTIONS] <OUT> <IN>...", b"OUT is replaced as a whole", b"stays as it was if the merge is refused"]),
-    Case("the version is a line", ["--version"], 0, b"lanes 0.11.0\n"),
+    Case("the version is a line", ["--version"], 0, b"lanes 0.12.0\n"),
     Case(
         "refused lines are explained where that is asked for, and the replies stay as they are",
         ["run", "--explain"],

@@ -23,7 +23,7 @@ use std::alloc::{AllocError, Global};
 use table_model::{BatchName, RowName};
 
 /// The program's version.
-const VERSION: &str = "0.11.0";
+const VERSION: &str = "0.12.0";
 
 /// What is shown below the help of `lanes run`.
 const SCRIPT_HELP: &str =
