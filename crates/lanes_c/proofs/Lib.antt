@@ -17,7 +17,9 @@ pub mod InputFaults
 pub mod InputLoads
 pub mod SaidAgain
 pub mod TurnHandleFields
+pub mod PartsFollowing
 pub mod PartsHandleFields
+pub mod PartsJoins
 pub mod TurnEnds
 pub mod TurnSteps
 pub mod PartsTaken

@@ -23,7 +23,7 @@ use Rattle.std.proofs.GlobalToken.{dealloc_token-Testable}
 use Rattle.std_alloc.specs.Box.Ownership.{box_owns}
 use Rattle.lanes_c.specs.PartsHandles.{parts_own}
 use Rattle.lanes_c.specs.PartsHandles.{Read}
-use Rattle.read_parts.specs.contracts.parts.ReadParts as held
+use Rattle.lanes_c.specs.contracts.read_parts.ReadParts as held
 use Rattle.lanes_c.specs.contracts.parts_handle.FolderParts as handle
 
 abbrev pub word : Ptr → Val

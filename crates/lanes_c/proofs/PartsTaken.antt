@@ -5,8 +5,8 @@ use Rattle.folder_turns.specs.Orders.{matter_of}
 use Rattle.folder_turns.specs.Turns.{State}
 use Rattle.folder_turns.specs.declared.order.Order.{Order}
 use Rattle.replica_changes.specs.Forgetting.{forgetting}
-use Rattle.read_parts.specs.Orders as parts
-use Rattle.read_parts.specs.declared.parts.Forget.{Forget}
+use Rattle.lanes_c.specs.PartsOrders as parts
+use Rattle.lanes_c.specs.declared.read_parts.Forget.{Forget}
 use Rattle.lanes_c.specs.PartsHandles.{Read}
 use Rattle.lanes_c.specs.PartsRead.{Forgets, state_replacing, turn_of}
 

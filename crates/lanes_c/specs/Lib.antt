@@ -20,6 +20,8 @@ pub mod Names
 pub mod Opened
 pub mod PartialAnswers
 pub mod PartsHandles
+pub mod PartsJoined
+pub mod PartsOrders
 pub mod PartsRead
 pub mod Queries
 pub mod Rooms

@@ -9,7 +9,7 @@ use Rattle.std.specs.declared.alloc.Global.{Global}
 use Rattle.std.specs.contracts.impls.GlobalAllocator.TheImpl.{ghosts}
 use Rattle.std_alloc.specs.Box.Ownership.{box_owns}
 use Rattle.replica_store.specs.Replica.{Replica, coded_replica}
-use Rattle.read_parts.specs.contracts.parts.ReadParts.{the_row}
+use Rattle.lanes_c.specs.contracts.read_parts.ReadParts.{the_row}
 
 -- what parts hold together, and their bytes, the newest first
 abbrev pub Read : Type 0

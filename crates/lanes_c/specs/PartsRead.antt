@@ -12,8 +12,8 @@ use Rattle.folder_turns.specs.declared.turn.Turn.{Turn}
 use Rattle.replica_store.specs.Replica.{Replica}
 use Rattle.replica_changes.specs.Commands.{file_of}
 use Rattle.replica_changes.specs.Forgetting.{forgetting}
-use Rattle.read_parts.specs.Orders.{MayFollow, matter_replacing, names_of}
-use Rattle.read_parts.specs.declared.parts.ReadParts.{ReadParts}
+use Rattle.lanes_c.specs.PartsOrders.{MayFollow, matter_replacing, names_of}
+use Rattle.lanes_c.specs.declared.read_parts.ReadParts.{ReadParts}
 use Rattle.lanes_c.specs.Faults.{nowhere, number_of_fault, place_of_fault, told_of_part}
 use Rattle.lanes_c.specs.PartsHandles.{Read}
 use Rattle.lanes_c.specs.Rooms.{Given}

@@ -32,6 +32,7 @@ mod parts_handle;
 mod parts_reading;
 mod parts_turns;
 mod queries;
+mod read_parts;
 mod reading;
 mod refused_rows;
 mod room;

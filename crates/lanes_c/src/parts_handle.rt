@@ -6,7 +6,7 @@ ghost use Rattle.std.specs.declared.option.Option.TheVariants.{None as Closed, S
 ghost use Rattle.lanes_c.specs.PartsHandles.{Read, coded_read, parts_own};
 
 use crate::loose::Loose;
-use read_parts::ReadParts;
+use crate::read_parts::ReadParts;
 use std::alloc::Global;
 use std::boxed::Box;
 use std::marker::Model;

@@ -8,12 +8,12 @@ ghost use Rattle.lanes_c.specs.declared.fault.Fault.TheVariants.{Refused};
 
 use crate::fault::{Fault, NOT_OPEN, Place};
 use crate::parts_handle::FolderParts;
+use crate::read_parts::ReadParts;
 use crate::room::{hand_out, hand_over};
 use crate::table_changes::tell;
 use crate::turn_calls::text;
 use crate::turn_handle::FolderTurn;
 use folder_turns::{Order, Turn};
-use read_parts::ReadParts;
 use std::alloc::Global;
 use std::boxed::Box;
 use std::mem::replace;

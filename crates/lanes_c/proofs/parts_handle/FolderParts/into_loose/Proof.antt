@@ -28,7 +28,7 @@ use Rattle.std.specs.declared.option.Option.TheVariants.{None, Some}
 use Rattle.std.specs.contracts.alloc.Global as heap
 use Rattle.std.proofs.alloc.Global.TheLaws as heap_laws
 use Rattle.std.specs.contracts.impls.GlobalAllocator.TheImpl.{ghosts}
-use Rattle.read_parts.specs.contracts.parts.ReadParts as held
+use Rattle.lanes_c.specs.contracts.read_parts.ReadParts as held
 use Rattle.lanes_c.specs.contracts.parts_handle.FolderParts as table
 use Rattle.lanes_c.proofs.PartsHandleFields.{word, told, either}
 use Rattle.lanes_c.proofs.LooseValues.{both, al, Loose, loose_good, loose_in}

@@ -27,7 +27,7 @@ use Rattle.std.proofs.alloc.Global.TheLaws as heap_laws
 use Rattle.std.specs.contracts.impls.GlobalAllocator.TheImpl.{ghosts}
 use Rattle.lanes_c.specs.PartsHandles.{boxed_parts}
 use Rattle.lanes_c.specs.PartsHandles.{Read}
-use Rattle.read_parts.specs.contracts.parts.ReadParts as held
+use Rattle.lanes_c.specs.contracts.read_parts.ReadParts as held
 use Rattle.lanes_c.proofs.PartsHandleFields.{word, Data, made}
 use Rattle.lanes_c.proofs.LooseValues.{both, Loose, loose_good, loose_out}
 use Rattle.lanes_c.specs.contracts.parts_handle.FolderParts.of.{ended, clauses}

@@ -1,6 +1,6 @@
 -- A further part is held with those before it.
-use Rattle.read_parts.proofs.Following.{next_read}
-use Rattle.read_parts.proofs.parts.ReadParts.with_part.Goals as goal
+use Rattle.lanes_c.proofs.PartsFollowing.{next_read}
+use Rattle.lanes_c.proofs.read_parts.ReadParts.with_part.Goals as goal
 
 pub invariant_of-result : goal.invariant_of-result
 invariant_of-result c =

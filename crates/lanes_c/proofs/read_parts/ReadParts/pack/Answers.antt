@@ -5,9 +5,9 @@ use Rattle.std.specs.declared.string.String.{String}
 use Rattle.std.proofs.Common.{ap, subst, ◌∙◌}
 use Rattle.folder_turns.specs.Orders.{matter_of}
 use Rattle.replica_store.specs.Replica.{Replica}
-use Rattle.read_parts.specs.Orders.{MayFollow}
-use Rattle.read_parts.proofs.Following.{pack_follows}
-use Rattle.read_parts.proofs.parts.ReadParts.pack.Goals as goal
+use Rattle.lanes_c.specs.PartsOrders.{MayFollow}
+use Rattle.lanes_c.proofs.PartsFollowing.{pack_follows}
+use Rattle.lanes_c.proofs.read_parts.ReadParts.pack.Goals as goal
 
 pub returns-clause-in_turn : goal.returns-clause-in_turn
 returns-clause-in_turn c =

@@ -9,9 +9,9 @@ use Rattle.folder_turns.specs.Orders.{matter_of}
 use Rattle.replica_store.specs.Replica.{Replica}
 use Rattle.replica_changes.specs.Forgetting.{forgetting}
 use Rattle.folder_commands.proofs.Commands.{is_some}
-use Rattle.read_parts.specs.Orders.{MayFollow, Replaces}
-use Rattle.read_parts.proofs.Following.{follows, forgets, replaces}
-use Rattle.read_parts.proofs.parts.ReadParts.forget.Goals as goal
+use Rattle.lanes_c.specs.PartsOrders.{MayFollow, Replaces}
+use Rattle.lanes_c.proofs.PartsFollowing.{follows, forgets, replaces}
+use Rattle.lanes_c.proofs.read_parts.ReadParts.forget.Goals as goal
 
 pub returns-then-dropped-eq0-clause-forgot : goal.returns-then-dropped-eq0-clause-forgot
 returns-then-dropped-eq0-clause-forgot c =

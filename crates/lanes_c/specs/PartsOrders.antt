@@ -15,7 +15,7 @@ use Rattle.replica_changes.specs.Forgetting.{forgetting}
 use Rattle.folder_parts.specs.Covers.{folder_parts}
 use Rattle.folder_parts.specs.PartName.{part_name}
 use Rattle.folder_commands.specs.Wanted.{goes}
-use Rattle.read_parts.specs.declared.parts.Forget.{Forget}
+use Rattle.lanes_c.specs.declared.read_parts.Forget.{Forget}
 
 -- each of these files was read in a history, under the name of its bytes
 abbrev pub WereRead : List (List ℕ) → List Call → Type 0

@@ -8,7 +8,7 @@ ghost use Rattle.replica_store.specs.Replica.{Replica};
 ghost use Rattle.replica_reports.specs.Held.{held_in};
 ghost use Rattle.replica_changes.specs.Commands.{as_held, file_of};
 ghost use Rattle.replica_changes.specs.Forgetting.{forgetting};
-ghost use Rattle.read_parts.specs.Orders.{Forgets, MayFollow, Replaces, matter_replacing};
+ghost use Rattle.lanes_c.specs.PartsOrders.{Forgets, MayFollow, Replaces, matter_replacing};
 
 use folder_commands::{file_of, left_of, names_for};
 use folder_parts::{Join, PartFault};
@@ -35,8 +35,8 @@ impl Model for ReadParts {
     ghost use Rattle.folder_protocol.specs.Note.{calls_of};
     ghost use Rattle.folder_protocol.specs.Taking.{bytes_read};
     ghost use Rattle.replica_store.specs.Replica.{Replica, coded_replica};
-    ghost use Rattle.read_parts.specs.Joined.{IsJoinOf};
-    ghost use Rattle.read_parts.specs.Orders.{names_of};
+    ghost use Rattle.lanes_c.specs.PartsJoined.{IsJoinOf};
+    ghost use Rattle.lanes_c.specs.PartsOrders.{names_of};
 
     ghost Value = { Replica × List (List ℕ) };
 

@@ -11,7 +11,7 @@ use Rattle.replica_changes.specs.Commands.{merged_with}
 use Rattle.replica_changes.proofs.FileLaws.{bound_parts}
 use Rattle.folder_parts.specs.Parts.{OpensPart, JoinsPart}
 use Rattle.folder_parts.proofs.JoinedSoFar.{merged_more}
-use Rattle.read_parts.specs.Joined.{IsJoinOf}
+use Rattle.lanes_c.specs.PartsJoined.{IsJoinOf}
 
 -- the first part
 pub first_joined : (name bytes : List ℕ) (next : Replica) → OpensPart {X = Replica} (λ r. r) (Ok next) (record { name = name; bytes = bytes }) → IsJoinOf next (bytes ∷ [])

@@ -4,8 +4,8 @@ use Rattle.std.specs.Global.{Global}
 use Rattle.std.specs.declared.string.String.{String}
 use Rattle.std.proofs.Common.{ap}
 use Rattle.folder_protocol.specs.Note.{calls_of}
-use Rattle.read_parts.proofs.Following.{first_read}
-use Rattle.read_parts.proofs.parts.ReadParts.new.Goals as goal
+use Rattle.lanes_c.proofs.PartsFollowing.{first_read}
+use Rattle.lanes_c.proofs.read_parts.ReadParts.new.Goals as goal
 
 pub invariant_of-result : goal.invariant_of-result
 invariant_of-result c =

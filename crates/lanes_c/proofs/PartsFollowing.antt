@@ -21,9 +21,9 @@ use Rattle.folder_parts.specs.Parts.{JoinsPart, OpensPart}
 use Rattle.folder_commands.specs.Joined.{AreRead}
 use Rattle.folder_commands.specs.Replacing.{AreCoveredBy}
 use Rattle.folder_commands.proofs.Replacings.{are_joined, pack_covered, forget_covered}
-use Rattle.read_parts.specs.Joined.{IsJoinOf}
-use Rattle.read_parts.proofs.Joins.{first_joined, from_reverse, next_joined, to_reverse}
-use Rattle.read_parts.specs.Orders.{MayFollow, Replaces, WereRead, matter_replacing, names_of}
+use Rattle.lanes_c.specs.PartsJoined.{IsJoinOf}
+use Rattle.lanes_c.proofs.PartsJoins.{first_joined, from_reverse, next_joined, to_reverse}
+use Rattle.lanes_c.specs.PartsOrders.{MayFollow, Replaces, WereRead, matter_replacing, names_of}
 
 -- the names with one more
 name_more : (name bytes : List ℕ) (files names more : List (List ℕ)) → name ≡ part_name bytes → names ≡ names_of files → more ≡ names ++ name ∷ [] → more ≡ names_of (bytes ∷ files)

@@ -4,8 +4,8 @@ use Rattle.replica_store.specs.Replica.{Replica}
 use Rattle.replica_reports.specs.Held.{held_in}
 use Rattle.replica_changes.specs.Commands.{as_held, file_of}
 use Rattle.replica_changes.specs.Forgetting.{forgetting}
-use Rattle.read_parts.proofs.Following.{of_join}
-use Rattle.read_parts.proofs.parts.left.Goals as goal
+use Rattle.lanes_c.proofs.PartsFollowing.{of_join}
+use Rattle.lanes_c.proofs.read_parts.left.Goals as goal
 
 pub returns : goal.returns
 returns c =
