@@ -28,7 +28,7 @@ names_of files = map part_name (reverse files)
 -- with what bytes are put in the place of the parts of these names: those go that have another name than the bytes
 abbrev pub matter_replacing : List ℕ → List (List ℕ) → List ℕ → Matter
 matter_replacing temporary names bytes =
-    record { temporary = temporary; name = part_name bytes; bytes = bytes; names = filter (goes [] (part_name bytes)) names }
+    record { temporary = temporary; name = part_name bytes; bytes = bytes; names = filter (goes [] (part_name bytes)) names; relied = [] }
 
 -- An order puts the file of a replica, which is read as that, in the place of the parts with these bytes.
 abbrev pub Replaces : Order → List ℕ → Replica → List (List ℕ) → Type 0

@@ -98,6 +98,7 @@ fn replacing(
         name,
         bytes,
         names: gone,
+        relied: Vec::new(alloc),
     })
 }
 
