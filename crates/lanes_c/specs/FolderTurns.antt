@@ -35,13 +35,14 @@ task_of n =
     else if n == 4 then tasks.Remove
     else if n == 6 then tasks.KeepAll
     else if n == 7 then tasks.PutJudged
+    else if n == 8 then tasks.KeepAndPutJudged
     else tasks.List
 
 -- the state of a turn that is begun: a part has the name of its bytes
 abbrev pub state_begun : ℕ → List ℕ → List ℕ → State
 state_begun command temporary part = record {
   task = task_of command;
-  matter = record { temporary = temporary; name = part_name part; bytes = part; names = [] };
+  matter = record { temporary = temporary; name = part_name part; bytes = part; names = []; relied = [] };
   calls = [];
   asked = None;
   listed = [];
@@ -109,8 +110,8 @@ EndsIn (Ok end) fault = ⊥
 EndsIn (Err error) fault = (fault ≡ faults.Busy) ⊎ ((code : ℕ) × (fault ≡ faults.System code))
 
 -- What an end of this number says of all calls, after those before: a part that is on the disk is stored, and then the others are removed in whose
--- place it came; parts are kept; and a part that is there, and was to go with all others, was given its name only as a listing under the
--- exclusive lock gave no names but those that were seen.
+-- place it came; parts are kept, and so are those on which a part relies, whatever came of it; and a part that is there, and was to go with all
+-- others, was given its name only as a listing under the exclusive lock gave no names but those that were seen.
 abbrev pub SaysEnd : Task → Matter → ℕ → Parts → List Call → List Call → Type 0
 SaysEnd tasks.Put m n parts before calls = n ≡ 1 → IsStored parts m.bytes calls
 SaysEnd tasks.Keep m n parts before calls = n ≡ 1 → IsStored parts m.bytes calls
@@ -119,6 +120,8 @@ SaysEnd tasks.Remove m n parts before calls = n ≡ 1 → AreRemoved m.names bef
 SaysEnd tasks.List m n parts before calls = Unit {0}
 SaysEnd tasks.KeepAll m n parts before calls = AreKept parts m.names before calls
 SaysEnd tasks.PutJudged m n parts before calls = (n ≡ 1 → IsStored parts m.bytes calls) × ((n ≡ 1) ⊎ (n ≡ 2) → HasOnlySeen m.names before calls)
+SaysEnd tasks.KeepAndPutJudged m n parts before calls =
+    AreKept parts m.relied before calls × (n ≡ 1 → IsStored parts m.bytes calls) × ((n ≡ 1) ⊎ (n ≡ 2) → HasOnlySeen m.names before calls)
 
 -- What an end of this number comes of: a sync that failed; a name of which there was no file, or that a listing lacked; or a listing under the
 -- exclusive lock that gave a name that was not seen.
@@ -176,7 +179,13 @@ DrivesOpen before kind number bytes old new call given =
 abbrev pub named_at : Option Call → List ℕ → State → State
 named_at None name state = record {
   task = state.task;
-  matter = record { temporary = state.matter.temporary; name = state.matter.name; bytes = state.matter.bytes; names = state.matter.names ++ name ∷ [] };
+  matter = record {
+    temporary = state.matter.temporary;
+    name = state.matter.name;
+    bytes = state.matter.bytes;
+    names = state.matter.names ++ name ∷ [];
+    relied = state.matter.relied;
+  };
   calls = state.calls;
   asked = state.asked;
   listed = state.listed;
@@ -187,3 +196,19 @@ named_at (Some call) name state =
 -- lanes_folder_name
 abbrev pub named : List ℕ → State → State
 named name state = named_at state.asked name state
+
+-- lanes_folder_relied: a name is added to those on which the order's part relies
+abbrev pub relying : List ℕ → State → State
+relying name state = record {
+  task = state.task;
+  matter = record {
+    temporary = state.matter.temporary;
+    name = state.matter.name;
+    bytes = state.matter.bytes;
+    names = state.matter.names;
+    relied = state.matter.relied ++ name ∷ [];
+  };
+  calls = state.calls;
+  asked = state.asked;
+  listed = state.listed;
+}

@@ -88,6 +88,6 @@ pub use table_changes::{
 pub use table_reading::{lanes_batches, lanes_digest, lanes_file, lanes_inspect};
 pub use turn_calls::{
     FolderCall, lanes_folder_begin, lanes_folder_end, lanes_folder_name, lanes_folder_next,
-    lanes_part_name,
+    lanes_folder_relied, lanes_part_name,
 };
 pub use turn_handle::FolderTurn;

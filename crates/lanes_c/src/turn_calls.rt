@@ -8,7 +8,7 @@ ghost use Rattle.folder_turns.specs.Orders.{matter_of};
 ghost use Rattle.folder_turns.specs.Turns.{state_of};
 ghost use Rattle.folder_turns.specs.declared.request.Answer.TheVariants as answers;
 ghost use Rattle.lanes_c.specs.Calls.{Yields};
-ghost use Rattle.lanes_c.specs.FolderTurns.{Begins, DrivesOpen, Drives, EndsAs, EndsIn, Fits, GoesOn, HasEnded, HasTold, IsAbout, IsAsked, named, names_left, state_begun, task_of};
+ghost use Rattle.lanes_c.specs.FolderTurns.{Begins, DrivesOpen, Drives, EndsAs, EndsIn, Fits, GoesOn, HasEnded, HasTold, IsAbout, IsAsked, named, names_left, relying, state_begun, task_of};
 ghost use Rattle.lanes_c.specs.Rooms.{IsFilled, Tells, given_by};
 ghost use Rattle.lanes_c.specs.Taking.{NoText};
 ghost use Rattle.lanes_c.specs.declared.fault.Fault.TheVariants.{Busy, Refused, System};
@@ -55,6 +55,7 @@ fn task_of(command: u8) -> Task
         4 => Task::Remove,
         6 => Task::KeepAll,
         7 => Task::PutJudged,
+        8 => Task::KeepAndPutJudged,
         _ => Task::List,
     }
 }
@@ -87,6 +88,7 @@ fn begun(alloc: Global, command: u8, temporary: &[u8], part: &[u8]) -> Result<Bo
         name: part_name(alloc, part)?,
         bytes: copied(alloc, part)?,
         names: Vec::new(alloc),
+        relied: Vec::new(alloc),
     };
     Ok(Box::new(alloc, Turn::new(alloc, order))?)
 }
@@ -149,6 +151,46 @@ pub extern "C" fn lanes_folder_name(
         return NOT_OPEN;
     };
     let added = add_name(alloc, &mut held, name);
+    drop(replace(turn, FolderTurn::of_box(held)).into_box(alloc));
+    match added {
+        Ok(()) => {
+            *place = Place::nowhere();
+            0
+        }
+        Err(fault) => {
+            *place = fault.place();
+            fault.number()
+        }
+    }
+}
+
+/// Adds a name to those of the parts on which the order's part relies.
+fn add_relied(alloc: Global, turn: &mut Turn, name: &[u8]) -> Result<(), Fault>
+    ensures added { OnOk result (state_of turn.new ≡ relying name.now (state_of turn.old)) }
+    ensures kept { OnErr result (state_of turn.new ≡ state_of turn.old) }
+{
+    let name = text(alloc, name)?;
+    turn.order.relied.push(name)?;
+    Ok(())
+}
+
+/// Adds to a turn the name of a part on which the part relies that is put, before the first call is asked for.
+///
+/// Refused are `NotOpen` if the handle is closed, `Syntax` if the name is no text, and `Memory`.
+#[unsafe(no_mangle)]
+pub extern "C" fn lanes_folder_relied(
+    alloc: Global,
+    name: &[u8],
+    turn: &mut FolderTurn,
+    place: &mut Place,
+) -> u8
+    ensures { MatchOption turn.old.state ((result ≡ 39) × (turn.new.state ≡ None)) (λ was. ((result ≡ 0) × (turn.new.state ≡ Some (relying name.now was))) ⊎ (turn.new.state ≡ Some was)) }
+{
+    let Some(mut held) = replace(turn, FolderTurn::closed()).into_box(alloc) else {
+        *place = Place::nowhere();
+        return NOT_OPEN;
+    };
+    let added = add_relied(alloc, &mut held, name);
     drop(replace(turn, FolderTurn::of_box(held)).into_box(alloc));
     match added {
         Ok(()) => {
