@@ -4,7 +4,7 @@ ghost use Rattle.table_model.specs.Outcome.{Gives};
 ghost use Rattle.column_file.specs.Files.{AreCanonicalOf, canonical_file, opened_from};
 
 use crate::file_bytes::FileBytes;
-use column_file::{export, open};
+use column_file::{export_bytes, open};
 use replica_store::Store;
 use std::alloc::Global;
 use table_model::{Counted, Origin, Refusal};
@@ -13,11 +13,7 @@ use table_model::{Counted, Origin, Refusal};
 pub fn exported(alloc: Global, store: &Store) -> Result<FileBytes, Refusal>
     ensures { Gives (λ file. file) result (Ok (canonical_file store.now.replica.schema store.now.replica.state)) }
 {
-    let mut writer = Counted::new(Vec::new(alloc));
-    match export(alloc, store, &mut writer) {
-        Ok(()) => Ok(FileBytes::from_vec(writer.into_inner())),
-        Err(_) => Err(Refusal::Memory),
-    }
+    Ok(FileBytes::from_vec(export_bytes(alloc, store)?))
 }
 
 /// The replica of an own origin that has the content of a canonical file. Bytes in memory are read without a fault, so a failed
