@@ -21,9 +21,9 @@ use Rattle.folder_turns.specs.declared.order.End.{End}
 use Rattle.folder_turns.specs.declared.order.End.TheVariants as ends
 
 -- the same matter, whose texts are given
-pub same_matter : (m : Matter) (temporary name bytes : List ℕ) (names : List (List ℕ)) → temporary ≡ m.temporary → name ≡ m.name → bytes ≡ m.bytes → names ≡ m.names
-    → record { temporary = temporary; name = name; bytes = bytes; names = names } ≡ m
-same_matter m temporary name bytes names t n b ns = λ i. record { temporary = t i; name = n i; bytes = b i; names = ns i }
+pub same_matter : (m : Matter) (temporary name bytes : List ℕ) (names relied : List (List ℕ)) → temporary ≡ m.temporary → name ≡ m.name → bytes ≡ m.bytes → names ≡ m.names → relied ≡ m.relied
+    → record { temporary = temporary; name = name; bytes = bytes; names = names; relied = relied } ≡ m
+same_matter m temporary name bytes names relied t n b ns rs = λ i. record { temporary = t i; name = n i; bytes = b i; names = ns i; relied = rs i }
 
 -- what came of a part
 came_is : (a b : Outcome) → ends.Came a ≡ ends.Came b → a ≡ b
@@ -104,3 +104,12 @@ module _ {E : Type 0} (m : Matter) (parts : Parts) (before calls : List Call) wh
   judged_says (Ok (Some how)) stored seen cause unseen fails links = ((λ is. stored (ap (λ (o : Outcome). Some o) (came_is how OnDisk is)), λ other is. seen), cause, links)
   judged_says (Ok None) stored seen cause unseen fails links = ((λ is. cc, λ other is. cc), unseen refl, links)
   judged_says (Err error) stored seen cause unseen fails links = (tt, fails, links)
+
+  -- and that relies on parts which are kept
+  pub relying_says : (given : Result (Option Outcome) E) → OnOk given (AreKept parts m.relied before calls) → IfOk given (λ answer. answer ≡ Some OnDisk → IsStored parts m.bytes calls)
+      → IfOk given (λ answer. IfSome answer (λ how. HasOnlySeen m.names before calls)) → IfOk given (λ answer. IfSome answer (λ how. LookCause how m.name m.bytes before calls))
+      → IfOk given (λ answer. answer ≡ None → HasUnseen m.names before calls) → OnErr given (HasCall Fails before calls) → LinksOnly (Watches (Each (λ name. Among name m.names))) before calls
+      → EndSays tasks.KeepAndPutJudged m (judged given) parts before calls
+  relying_says (Ok (Some how)) are stored seen cause unseen fails links = ((are, λ is. stored (ap (λ (o : Outcome). Some o) (came_is how OnDisk is)), λ other is. seen), cause, links)
+  relying_says (Ok None) are stored seen cause unseen fails links = ((are, λ is. cc, λ other is. cc), unseen refl, links)
+  relying_says (Err error) are stored seen cause unseen fails links = (tt, fails, links)

@@ -26,11 +26,18 @@ pub record Matter : Type 0 where
   pub name : List ℕ
   pub bytes : List ℕ
   pub names : List (List ℕ)
+  pub relied : List (List ℕ)
 
 -- with what an order is followed
 abbrev pub matter_of : Order → Matter
 matter_of order =
-    record { temporary = string_bytes order.temporary; name = string_bytes order.name; bytes = order.bytes.items; names = map string_bytes order.names.items }
+    record {
+      temporary = string_bytes order.temporary;
+      name = string_bytes order.name;
+      bytes = order.bytes.items;
+      names = map string_bytes order.names.items;
+      relied = map string_bytes order.relied.items;
+    }
 
 -- what is asked of a task's matter after some calls
 abbrev pub Suits : Task → Matter → Parts → List Call → Type 0
@@ -41,6 +48,7 @@ Suits tasks.Remove m parts before = MayRemove parts m.name m.bytes m.names befor
 Suits tasks.List m parts before = Unit {0}
 Suits tasks.KeepAll m parts before = Unit {0}
 Suits tasks.PutJudged m parts before = MayPut parts m.temporary m.name m.bytes
+Suits tasks.KeepAndPutJudged m parts before = MayPut parts m.temporary m.name m.bytes
 
 -- When the calls of a task are in turn after others: no sync of the folder has failed before.
 abbrev pub MayTake : Task → Matter → Parts → List Call → Type 0
@@ -61,11 +69,12 @@ abbrev pub LinksInTask : Task → Matter → List Call → List Call → Type 0
 LinksInTask tasks.Put m before calls = Unit {0}
 LinksInTask tasks.Replace m before calls = LinksOnly (Watches (HasEach m.names)) before calls
 LinksInTask tasks.PutJudged m before calls = LinksOnly (Watches (Each (λ name. Among name m.names))) before calls
+LinksInTask tasks.KeepAndPutJudged m before calls = LinksOnly (Watches (Each (λ name. Among name m.names))) before calls
 LinksInTask task m before calls = LinksNone before calls
 
 -- What the end of a task says of all calls, after those before: a part that is on the disk is stored; names are those of the last listing; the
--- parts of these names were removed, or are kept; and a part was put only if a listing under the exclusive lock gave no names but those that
--- were seen.
+-- parts of these names were removed, or are kept; a part was put only if a listing under the exclusive lock gave no names but those that were
+-- seen; and those on which it relies are kept, whatever came of it.
 abbrev pub Says : {E : Type 0} → Task → Matter → Result End E → Parts → List Call → List Call → Type 0
 Says tasks.Put m result parts before calls = IfOk result (λ end. end ≡ ends.Came OnDisk → IsStored parts m.bytes calls)
 Says tasks.Keep m result parts before calls = IfOk result (λ end. end ≡ ends.Came OnDisk → IsStored parts m.bytes calls)
@@ -76,6 +85,8 @@ Says tasks.List m result parts before calls =
 Says tasks.KeepAll m result parts before calls = IfOk result (λ end. AreKept parts m.names before calls)
 Says tasks.PutJudged m result parts before calls =
     IfOk result (λ end. (end ≡ ends.Came OnDisk → IsStored parts m.bytes calls) × ((how : Outcome) → end ≡ ends.Came how → HasOnlySeen m.names before calls))
+Says tasks.KeepAndPutJudged m result parts before calls =
+    IfOk result (λ end. AreKept parts m.relied before calls × (end ≡ ends.Came OnDisk → IsStored parts m.bytes calls) × ((how : Outcome) → end ≡ ends.Came how → HasOnlySeen m.names before calls))
 
 -- What an end comes of: what came of a part has its cause, as a sync that failed; a listing did not give one of these names; or a listing under
 -- the exclusive lock gave one that was not seen.

@@ -74,6 +74,7 @@ number tasks.Remove = 3
 number tasks.List = 4
 number tasks.KeepAll = 5
 number tasks.PutJudged = 6
+number tasks.KeepAndPutJudged = 7
 
 -- the task of a number
 abbrev task_at : ℕ → Task
@@ -84,7 +85,8 @@ task_at n =
     else if n == 3 then tasks.Remove
     else if n == 4 then tasks.List
     else if n == 5 then tasks.KeepAll
-    else tasks.PutJudged
+    else if n == 6 then tasks.PutJudged
+    else tasks.KeepAndPutJudged
 
 -- the number gives the task again
 task_again : (t : Task) → task_at (number t) ≡ t
@@ -95,27 +97,36 @@ task_again tasks.Remove = refl
 task_again tasks.List = refl
 task_again tasks.KeepAll = refl
 task_again tasks.PutJudged = refl
+task_again tasks.KeepAndPutJudged = refl
 
--- a number, three texts, names, calls, a call and names
+-- a number, three texts, names twice, calls, a call and names
 abbrev Shape : Type 0
-Shape = ℕ × (List ℕ × (List ℕ × (List ℕ × (List (List ℕ) × (List Call × (Option Call × List (List ℕ)))))))
+Shape = ℕ × (List ℕ × (List ℕ × (List ℕ × (List (List ℕ) × (List (List ℕ) × (List Call × (Option Call × List (List ℕ))))))))
 
 -- the shape of a state
 abbrev shape : State → Shape
-shape s = (number s.task, (s.matter.temporary, (s.matter.name, (s.matter.bytes, (s.matter.names, (s.calls, (s.asked, s.listed)))))))
+shape s = (number s.task, (s.matter.temporary, (s.matter.name, (s.matter.bytes, (s.matter.names, (s.matter.relied, (s.calls, (s.asked, s.listed))))))))
 
 -- the state of a shape
 abbrev state : Shape → State
-state (n, (temporary, (name, (bytes, (names, (calls, (asked, listed))))))) =
-    record { task = task_at n; matter = record { temporary = temporary; name = name; bytes = bytes; names = names }; calls = calls; asked = asked; listed = listed }
+state (n, (temporary, (name, (bytes, (names, (relied, (calls, (asked, listed)))))))) =
+    record { task = task_at n; matter = record { temporary = temporary; name = name; bytes = bytes; names = names; relied = relied }; calls = calls; asked = asked; listed = listed }
 
 -- the shape gives the state again
 pub state_shape : (s : State) → state (shape s) ≡ s
 state_shape s = λ i. record { task = task_again s.task i; matter = s.matter; calls = s.calls; asked = s.asked; listed = s.listed }
 
+-- a code of a text
+abbrev coded_text : Coded (List ℕ)
+coded_text = coded_list coded_ℕ
+
+-- and of names
+abbrev coded_names : Coded (List (List ℕ))
+coded_names = coded_list coded_text
+
 -- a state is coded by its shape, from which it can be had again
 abbrev pub coded_state : Coded State
 coded_state =
     code_by Shape
-    (coded× coded_ℕ (coded× (coded_list coded_ℕ) (coded× (coded_list coded_ℕ) (coded× (coded_list coded_ℕ) (coded× (coded_list (coded_list coded_ℕ)) (coded× (coded_list coded_call) (coded× (coded_option coded_call) (coded_list (coded_list coded_ℕ)))))))))
+    (coded× coded_ℕ (coded× coded_text (coded× coded_text (coded× coded_text (coded× coded_names (coded× coded_names (coded× (coded_list coded_call) (coded× (coded_option coded_call) coded_names))))))))
     shape state state_shape

@@ -5,7 +5,8 @@ ghost use Rattle.folder_turns.specs.Orders.{EndSays, MayTake, matter_of, came, r
 use crate::program::Program;
 use crate::seen::Seen;
 use folder_protocol::{
-    Folder, Outcome, keep, keep_all, list_names, put, put_judged, remove_joined, replace,
+    Folder, Outcome, keep, keep_all, keep_and_put_judged, list_names, put, put_judged,
+    remove_joined, replace,
 };
 use std::alloc::Global;
 use std::io;
@@ -27,6 +28,8 @@ pub enum Task {
     KeepAll,
     /// Put the part of this name and with these bytes, if the folder has no names but these, which were seen.
     PutJudged,
+    /// The same, once the parts on which it relies are on the disk, if they are there. If one of those can't be synced nothing is put.
+    KeepAndPutJudged,
 }
 
 /// What is to be done, and with what. What a task has no use for is empty.
@@ -38,6 +41,8 @@ pub struct Order {
     pub name: String,
     pub bytes: Vec<u8>,
     pub names: Vec<String>,
+    /// The names of the parts on which the part relies.
+    pub relied: Vec<String>,
 }
 
 /// What a task has come to.
@@ -126,6 +131,10 @@ impl Program for Order {
             Task::PutJudged => {
                 let judge = Seen { names };
                 judged(put_judged(alloc, folder, temporary, name, bytes, &judge))
+            }
+            Task::KeepAndPutJudged => {
+                let (judge, relied) = (Seen { names }, self.relied.as_slice());
+                judged(keep_and_put_judged(alloc, folder, relied, temporary, name, bytes, &judge))
             }
         }
     }
