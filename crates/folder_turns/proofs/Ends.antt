@@ -105,7 +105,17 @@ module _ {E : Type 0} (m : Matter) (parts : Parts) (before calls : List Call) wh
   judged_says (Ok None) stored seen cause unseen fails links = ((λ is. cc, λ other is. cc), unseen refl, links)
   judged_says (Err error) stored seen cause unseen fails links = (tt, fails, links)
 
-  -- and that relies on parts which are kept
+  kept_came : (given : Result Outcome E) → OnOk given (AreKept parts m.relied before calls) → IfOk given (λ how. how ≡ OnDisk → IsStored parts m.bytes calls)
+      → IfOk (came given) (λ end. AreKept parts m.relied before calls × (end ≡ ends.Came OnDisk → IsStored parts m.bytes calls))
+  kept_came (Ok how) are stored = (are, λ is. stored (came_is how OnDisk is))
+  kept_came (Err error) are stored = tt
+
+  -- of a part that relies on others which are kept
+  pub keeping_says : (given : Result Outcome E) → OnOk given (AreKept parts m.relied before calls) → IfOk given (λ how. how ≡ OnDisk → IsStored parts m.bytes calls)
+      → IfOk given (λ how. LookCause how m.name m.bytes before calls) → OnErr given (HasCall Fails before calls) → EndSays tasks.KeepAndPut m (came given) parts before calls
+  keeping_says given are stored cause fails = (kept_came given are stored, came_caused given cause fails, tt)
+
+  -- and of one that is to go with all that are there, too
   pub relying_says : (given : Result (Option Outcome) E) → OnOk given (AreKept parts m.relied before calls) → IfOk given (λ answer. answer ≡ Some OnDisk → IsStored parts m.bytes calls)
       → IfOk given (λ answer. IfSome answer (λ how. HasOnlySeen m.names before calls)) → IfOk given (λ answer. IfSome answer (λ how. LookCause how m.name m.bytes before calls))
       → IfOk given (λ answer. answer ≡ None → HasUnseen m.names before calls) → OnErr given (HasCall Fails before calls) → LinksOnly (Watches (Each (λ name. Among name m.names))) before calls

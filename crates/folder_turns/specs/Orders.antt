@@ -48,6 +48,7 @@ Suits tasks.Remove m parts before = MayRemove parts m.name m.bytes m.names befor
 Suits tasks.List m parts before = Unit {0}
 Suits tasks.KeepAll m parts before = Unit {0}
 Suits tasks.PutJudged m parts before = MayPut parts m.temporary m.name m.bytes
+Suits tasks.KeepAndPut m parts before = MayPut parts m.temporary m.name m.bytes
 Suits tasks.KeepAndPutJudged m parts before = MayPut parts m.temporary m.name m.bytes
 
 -- When the calls of a task are in turn after others: no sync of the folder has failed before.
@@ -67,6 +68,7 @@ HasUnseen names before calls = WasSo (Watches (One (λ name. Among name names �
 -- never for a task that puts none.
 abbrev pub LinksInTask : Task → Matter → List Call → List Call → Type 0
 LinksInTask tasks.Put m before calls = Unit {0}
+LinksInTask tasks.KeepAndPut m before calls = Unit {0}
 LinksInTask tasks.Replace m before calls = LinksOnly (Watches (HasEach m.names)) before calls
 LinksInTask tasks.PutJudged m before calls = LinksOnly (Watches (Each (λ name. Among name m.names))) before calls
 LinksInTask tasks.KeepAndPutJudged m before calls = LinksOnly (Watches (Each (λ name. Among name m.names))) before calls
@@ -85,6 +87,7 @@ Says tasks.List m result parts before calls =
 Says tasks.KeepAll m result parts before calls = IfOk result (λ end. AreKept parts m.names before calls)
 Says tasks.PutJudged m result parts before calls =
     IfOk result (λ end. (end ≡ ends.Came OnDisk → IsStored parts m.bytes calls) × ((how : Outcome) → end ≡ ends.Came how → HasOnlySeen m.names before calls))
+Says tasks.KeepAndPut m result parts before calls = IfOk result (λ end. AreKept parts m.relied before calls × (end ≡ ends.Came OnDisk → IsStored parts m.bytes calls))
 Says tasks.KeepAndPutJudged m result parts before calls =
     IfOk result (λ end. AreKept parts m.relied before calls × (end ≡ ends.Came OnDisk → IsStored parts m.bytes calls) × ((how : Outcome) → end ≡ ends.Came how → HasOnlySeen m.names before calls))
 

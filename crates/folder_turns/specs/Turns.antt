@@ -74,7 +74,8 @@ number tasks.Remove = 3
 number tasks.List = 4
 number tasks.KeepAll = 5
 number tasks.PutJudged = 6
-number tasks.KeepAndPutJudged = 7
+number tasks.KeepAndPut = 7
+number tasks.KeepAndPutJudged = 8
 
 -- the task of a number
 abbrev task_at : ℕ → Task
@@ -86,6 +87,7 @@ task_at n =
     else if n == 4 then tasks.List
     else if n == 5 then tasks.KeepAll
     else if n == 6 then tasks.PutJudged
+    else if n == 7 then tasks.KeepAndPut
     else tasks.KeepAndPutJudged
 
 -- the number gives the task again
@@ -97,6 +99,7 @@ task_again tasks.Remove = refl
 task_again tasks.List = refl
 task_again tasks.KeepAll = refl
 task_again tasks.PutJudged = refl
+task_again tasks.KeepAndPut = refl
 task_again tasks.KeepAndPutJudged = refl
 
 -- a number, three texts, names twice, calls, a call and names

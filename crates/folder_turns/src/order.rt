@@ -5,8 +5,8 @@ ghost use Rattle.folder_turns.specs.Orders.{EndSays, MayTake, matter_of, came, r
 use crate::program::Program;
 use crate::seen::Seen;
 use folder_protocol::{
-    Folder, Outcome, keep, keep_all, keep_and_put_judged, list_names, put, put_judged,
-    remove_joined, replace,
+    Folder, Outcome, keep, keep_all, keep_and_put, keep_and_put_judged, list_names, put,
+    put_judged, remove_joined, replace,
 };
 use std::alloc::Global;
 use std::io;
@@ -28,7 +28,9 @@ pub enum Task {
     KeepAll,
     /// Put the part of this name and with these bytes, if the folder has no names but these, which were seen.
     PutJudged,
-    /// The same, once the parts on which it relies are on the disk, if they are there. If one of those can't be synced nothing is put.
+    /// As `Put`, once the parts on which it relies are on the disk, if they are there. If one of those can't be synced nothing is put.
+    KeepAndPut,
+    /// The same as `PutJudged`.
     KeepAndPutJudged,
 }
 
@@ -121,6 +123,7 @@ impl Program for Order {
     fn run<F: Folder>(&self, alloc: Global, folder: &mut F) -> io::Result<End> {
         let (temporary, name) = (self.temporary.as_str(), self.name.as_str());
         let (bytes, names) = (self.bytes.as_slice(), self.names.as_slice());
+        let relied = self.relied.as_slice();
         match self.task {
             Task::Put => came(put(alloc, folder, temporary, name, bytes)),
             Task::Keep => came(keep(alloc, folder, name, bytes)),
@@ -132,8 +135,9 @@ impl Program for Order {
                 let judge = Seen { names };
                 judged(put_judged(alloc, folder, temporary, name, bytes, &judge))
             }
+            Task::KeepAndPut => came(keep_and_put(alloc, folder, relied, temporary, name, bytes)),
             Task::KeepAndPutJudged => {
-                let (judge, relied) = (Seen { names }, self.relied.as_slice());
+                let judge = Seen { names };
                 judged(keep_and_put_judged(alloc, folder, relied, temporary, name, bytes, &judge))
             }
         }

@@ -62,6 +62,8 @@ ended_says E tasks.KeepAll m (Err error) n parts before calls number said = absu
 ended_says E tasks.PutJudged m (Ok end) n parts before calls number said =
     (on_disk {E = E} (IsStored parts m.bytes calls) (Ok end) n number said.0, there {E = E} (HasOnlySeen m.names before calls) (Ok end) n number said.1)
 ended_says E tasks.PutJudged m (Err error) n parts before calls number said = absurd number
+ended_says E tasks.KeepAndPut m (Ok end) n parts before calls number said = (said.0, on_disk {E = E} (IsStored parts m.bytes calls) (Ok end) n number said.1)
+ended_says E tasks.KeepAndPut m (Err error) n parts before calls number said = absurd number
 ended_says E tasks.KeepAndPutJudged m (Ok end) n parts before calls number said =
     (said.0, on_disk {E = E} (IsStored parts m.bytes calls) (Ok end) n number said.1, there {E = E} (HasOnlySeen m.names before calls) (Ok end) n number said.2)
 ended_says E tasks.KeepAndPutJudged m (Err error) n parts before calls number said = absurd number

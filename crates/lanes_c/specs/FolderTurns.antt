@@ -35,7 +35,8 @@ task_of n =
     else if n == 4 then tasks.Remove
     else if n == 6 then tasks.KeepAll
     else if n == 7 then tasks.PutJudged
-    else if n == 8 then tasks.KeepAndPutJudged
+    else if n == 8 then tasks.KeepAndPut
+    else if n == 9 then tasks.KeepAndPutJudged
     else tasks.List
 
 -- the state of a turn that is begun: a part has the name of its bytes
@@ -120,6 +121,7 @@ SaysEnd tasks.Remove m n parts before calls = n ≡ 1 → AreRemoved m.names bef
 SaysEnd tasks.List m n parts before calls = Unit {0}
 SaysEnd tasks.KeepAll m n parts before calls = AreKept parts m.names before calls
 SaysEnd tasks.PutJudged m n parts before calls = (n ≡ 1 → IsStored parts m.bytes calls) × ((n ≡ 1) ⊎ (n ≡ 2) → HasOnlySeen m.names before calls)
+SaysEnd tasks.KeepAndPut m n parts before calls = AreKept parts m.relied before calls × (n ≡ 1 → IsStored parts m.bytes calls)
 SaysEnd tasks.KeepAndPutJudged m n parts before calls =
     AreKept parts m.relied before calls × (n ≡ 1 → IsStored parts m.bytes calls) × ((n ≡ 1) ⊎ (n ≡ 2) → HasOnlySeen m.names before calls)
 

@@ -55,7 +55,8 @@ fn task_of(command: u8) -> Task
         4 => Task::Remove,
         6 => Task::KeepAll,
         7 => Task::PutJudged,
-        8 => Task::KeepAndPutJudged,
+        8 => Task::KeepAndPut,
+        9 => Task::KeepAndPutJudged,
         _ => Task::List,
     }
 }
