@@ -158,7 +158,7 @@ exported_put Memory before now w w' file h = inl (refl, h.0)
 exported_put other before now w w' file h = inr (h.0, h.2)
 
 -- a file that opens to a replica's table and state is read as that replica
-opened_as : (r : Replica) → OpensTo (file_of r) r.schema r.state → held_in (file_of r) ≡ Ok (as_held r)
+pub opened_as : (r : Replica) → OpensTo (file_of r) r.schema r.state → held_in (file_of r) ≡ Ok (as_held r)
 opened_as r (o, is, schema, state, segments) =
     ap (λ (x : Result OfferForm Refusal). x >>= λ (p : OfferForm). Ok (offering (record { 0 = 1 }) p)) is
     ∙ (λ i. let held : Result Replica Refusal = Ok (record { schema = schema i; own = record { 0 = 1 }; state = state i }) in held)
