@@ -16,12 +16,12 @@ ghost use Rattle.folder_commands.specs.Replacing.{Packs};
 
 use crate::reading::{read_named, refused};
 use crate::replacing::{Replaced, replace_read};
+use column_file::export_bytes;
 use folder_parts::PartRefusal;
 use folder_protocol::{Folder, Untaken};
-use replica_changes::write_changed;
 use replica_store::Store;
 use std::alloc::Global;
-use table_model::{Counted, Refusal};
+use table_model::Refusal;
 
 /// The file of what a store holds, which is let go.
 pub fn file_of(alloc: Global, store: Store) -> Result<Vec<u8>, Refusal>
@@ -29,11 +29,7 @@ pub fn file_of(alloc: Global, store: Store) -> Result<Vec<u8>, Refusal>
     ensures read { IfOk result (λ bytes. held_in (file_of store.replica) ≡ Ok (as_held store.replica)) }
     ensures refused { IfErr result (λ e. e ≡ Memory) }
 {
-    let mut writer = Counted::new(Vec::new(alloc));
-    match write_changed(alloc, &store, true, &mut writer) {
-        Ok(()) => Ok(writer.into_inner()),
-        Err(_) => Err(Refusal::Memory),
-    }
+    Ok(export_bytes(alloc, &store)?)
 }
 
 /// Packs the parts of these names: they are read and joined, and the part that has what all of them hold is put in their place, by a
