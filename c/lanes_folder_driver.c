@@ -311,18 +311,30 @@ uint8_t lanes_folder_drive(const char *path, lanes_turn *turn, const uint8_t *pa
     return number;
 }
 
-uint8_t lanes_folder_follow(const char *path, uint8_t command, const uint8_t *part, size_t part_length, const lanes_part_names *about,
-                            lanes_part_names *listed, uint64_t *came, lanes_place *place) {
+/* Adds names to a turn by a call, if there are any. */
+static uint8_t give_names(const lanes_part_names *names, uint8_t (*add)(const uint8_t *, size_t, lanes_turn *, lanes_place *), lanes_turn *turn, lanes_place *place) {
+    uint8_t number = 0;
+    for (size_t i = 0; !number && names && i < names->count; i++) number = add((const uint8_t *)names->names[i], LANES_PART_NAME - 1, turn, place);
+    return number;
+}
+
+uint8_t lanes_folder_follow_relying(const char *path, uint8_t command, const uint8_t *part, size_t part_length, const lanes_part_names *about,
+                                    const lanes_part_names *relied, lanes_part_names *listed, uint64_t *came, lanes_place *place) {
     lanes_turn turn = LANES_NO_TURN;
     lanes_temporary temporary;
     *came = 0;
     uint8_t number = lanes_folder_draw(temporary, place);
     if (!number) number = lanes_folder_begin(command, (const uint8_t *)temporary, strlen(temporary), part, part_length, &turn, place);
-    for (size_t i = 0; !number && about && i < about->count; i++)
-        number = lanes_folder_name((const uint8_t *)about->names[i], LANES_PART_NAME - 1, &turn, place);
+    if (!number) number = give_names(about, lanes_folder_name, &turn, place);
+    if (!number) number = give_names(relied, lanes_folder_relied, &turn, place);
     if (!number) return lanes_folder_drive(path, &turn, part, part_length, listed, came, place);
     lanes_folder_end(&turn);
     return number;
+}
+
+uint8_t lanes_folder_follow(const char *path, uint8_t command, const uint8_t *part, size_t part_length, const lanes_part_names *about,
+                            lanes_part_names *listed, uint64_t *came, lanes_place *place) {
+    return lanes_folder_follow_relying(path, command, part, part_length, about, NULL, listed, came, place);
 }
 
 uint8_t lanes_folder_take(const char *path, const lanes_part_names *names, lanes_parts *parts, int *is_gone, size_t *at, lanes_place *place) {

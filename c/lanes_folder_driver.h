@@ -50,6 +50,10 @@ uint8_t lanes_folder_read(const char *path, lanes_parts *parts, lanes_part_names
 uint8_t lanes_folder_follow(const char *path, uint8_t command, const uint8_t *part, size_t part_length, const lanes_part_names *about,
                             lanes_part_names *listed, uint64_t *came, lanes_place *place);
 
+/* The same of a part that relies on those of the names of `relied`, as LANES_FOLDER_KEEP_AND_PUT has it. `relied` may be null, for none. */
+uint8_t lanes_folder_follow_relying(const char *path, uint8_t command, const uint8_t *part, size_t part_length, const lanes_part_names *about,
+                                    const lanes_part_names *relied, lanes_part_names *listed, uint64_t *came, lanes_place *place);
+
 #ifdef __cplusplus
 }
 #endif

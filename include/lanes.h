@@ -615,7 +615,12 @@ enum {
     /* have parts on the disk that are there; all of them are read, and kept until the turn is ended, so a turn for each is better */
     LANES_FOLDER_KEEP_ALL = 6,
     /* put a part that goes with the parts of the names of lanes_folder_name, if no others are there: a load under a given name */
-    LANES_FOLDER_PUT_JUDGED = 7
+    LANES_FOLDER_PUT_JUDGED = 7,
+    /* put a part, once those of the names of lanes_folder_relied, on which it relies, are on the disk, or are gone; if one of them can't be synced
+     * the command is refused, and nothing is put. All of them are read, and kept until the turn is ended */
+    LANES_FOLDER_KEEP_AND_PUT = 8,
+    /* the same of LANES_FOLDER_PUT_JUDGED */
+    LANES_FOLDER_KEEP_AND_PUT_JUDGED = 9
 };
 
 /* What a call of lanes_folder_next asks for. */
@@ -675,7 +680,7 @@ enum {
     LANES_UNSYNCED = 2,
     /* a part is gone that was there: another process has packed the folder. Nothing was removed; begin anew, from what is there now */
     LANES_GONE = 3,
-    /* a part is there that LANES_FOLDER_PUT_JUDGED was not told of; nothing was put. Look at it, and begin anew */
+    /* a part is there that a judged put was not told of; nothing was put. Look at it, and begin anew */
     LANES_UNSEEN = 4
 };
 
@@ -699,14 +704,20 @@ uint8_t lanes_folder_begin(uint8_t command, const uint8_t *temporary, size_t tem
  * Refused: LANES_NOT_OPEN when there is no turn; LANES_SYNTAX when the name is no text, so that it is no part's. */
 uint8_t lanes_folder_name(const uint8_t *name, size_t name_length, lanes_turn *turn, lanes_place *place);
 
+/* Adds the name of a part on which the new part relies: it has something that the change brings, so the new part does without. Add all of them
+ * before the first call of lanes_folder_next.
+ *
+ * Refused: as of lanes_folder_name. */
+uint8_t lanes_folder_relied(const uint8_t *name, size_t name_length, lanes_turn *turn, lanes_place *place);
+
 /* Gives the bytes of the part that a turn is about: of a turn of lanes_parts_pack or lanes_parts_forget they are what LANES_CALL_WRITE writes.
  *
  * Refused: LANES_NOT_OPEN when there is no turn. */
 uint8_t lanes_folder_part(lanes_turn *turn, uint8_t *out, size_t room, size_t *length, lanes_place *place);
 
 /* Tells what came of the call that was asked for, and asks for the next one: `call` has its kind and its number, and `out` its names, one
- * after the other. The names are the one of the temporary, that of the part, which has 38 bytes, and those of lanes_folder_name. If they
- * don't fit, call again with more room and LANES_NOTHING.
+ * after the other. The names are the one of the temporary, that of the part, which has 38 bytes, and those of lanes_folder_name
+ * and lanes_folder_relied. If they don't fit, call again with more room and LANES_NOTHING.
  *
  * Each call costs the time of all calls before it, as the protocol runs from its beginning over what was told. So a turn that removes many
  * parts is better split.
@@ -802,7 +813,8 @@ void lanes_parts_close(lanes_parts *parts);
  *         if (lanes_table_meets(&load, bytes, bytes_length)) the load rests on this part
  *     number = lanes_skim_open(&skim, &table, &batches, &place);
  *     number = lanes_table_bring(&table, file, file_length, &fresh, out, room, &length, &place);     the load's file is an offer
- *     keep the parts on which the load rests, by LANES_FOLDER_KEEP_ALL, and put what was given, by LANES_FOLDER_PUT_JUDGED */
+ *     put what was given by LANES_FOLDER_KEEP_AND_PUT_JUDGED: give all names to lanes_folder_name, and those on which the load rests also to
+ *         lanes_folder_relied */
 typedef struct lanes_skim {
     void *read;
 } lanes_skim;

@@ -214,8 +214,7 @@ class Folder:
         held, names, deleting = self._basis(resting.has_deletions)
         rows, part = held._delete_part(condition)
         if rows:
-            part_folder.keep_or_raise(self.path, resting.with_deletions(self.path, deleting, held, condition))
-            part_folder.put(self.path, part)
+            part_folder.put(self.path, part, resting.with_deletions(self.path, deleting, held, condition))
         else:
             part_folder.keep(self.path, names)
         return rows
@@ -258,7 +257,7 @@ class Folder:
         whole = given[0] if len(given) == 1 else own.file(sum(map(len, given)))
         batches, part = basis.held._bring(whole)
         if part:
-            self._put_resting(part, basis)
+            self._put_beside(part, basis)
         elif bytes(own.file(0)) != empty.to_bytes():
             part_folder.keep(self.path, basis.names)
         return batches
@@ -478,7 +477,7 @@ class Folder:
         basis = self._basis_of_load(load, first)
         batches, part = basis.held._bring(load._file)
         if part:
-            self._put_resting(part, basis)
+            self._put_beside(part, basis)
         else:
             part_folder.keep(self.path, basis.relied)
         return batches
@@ -488,26 +487,17 @@ class Folder:
         (skim, _), _ = self._looked(lambda names: self._gathered(names, Skim(batch, 1), lambda data: False))
         return skim.opened()[0].batches() > 0
 
-    def _put_resting(self, part: bytes, basis: _Basis) -> None:
-        """Puts the part of a change, if it goes with all parts that are there. Before that, those on which it rests are kept.
+    def _put_beside(self, part: bytes, basis: _Basis) -> None:
+        """Puts the part of a change, which goes with all parts that it was made of, if no others are there. If one came since, it is looked at,
+        and the part is put anew: of two parts that are put at once, and have other rows under one name, one is refused. If the file system
+        has no lock of the folder it goes without, and readers find the two. Those on which the change rests are kept before.
 
         Raises:
             Refused: `Conflict`.
             Busy: others have had the folder for ten seconds, or parts have come for so long.
-            OSError: a part can't be synced, and nothing is put.
+            OSError: a part on which it rests can't be synced, and nothing is put.
         """
-        part_folder.keep_or_raise(self.path, basis.relied)
-        self._put_beside(part, basis.names)
-
-    def _put_beside(self, part: bytes, names: list[str]) -> None:
-        """Puts a part that goes with the parts of these names, if no others are there. If one came since, it is looked at, and the part is
-        put anew: of two parts that are put at once, and have other rows under one name, one is refused. If the file system has no lock of
-        the folder it goes without, and readers find the two.
-
-        Raises:
-            Refused: `Conflict`.
-            Busy: others have had the folder for ten seconds, or parts have come for so long.
-        """
+        names = basis.names
 
         def look(found: list[str]) -> None:
             since = [name for name in found if name not in names]
@@ -516,14 +506,14 @@ class Folder:
 
         wait = self._wait()
         try:
-            while not part_folder.put_beside(self.path, part, names):
+            while not part_folder.put_beside(self.path, part, names, basis.relied):
                 _, names = self._looked(look)
                 wait.again()
         except OSError as fault:
             if fault.errno != errno.ENOLCK:
                 raise
             self._looked(look)
-            part_folder.put(self.path, part)
+            part_folder.put(self.path, part, basis.relied)
 
     def _sized(self) -> list[Tuple[int, str]]:
         """The parts with their sizes, the smallest first."""

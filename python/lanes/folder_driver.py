@@ -16,7 +16,7 @@ from .errors import Busy, Damaged, Refused
 from .waiting import Wait
 
 #: The commands of `lanes_folder_begin`.
-PUT, KEEP, REPLACE, REMOVE, LIST, KEEP_ALL, PUT_JUDGED = range(1, 8)
+PUT, KEEP, REPLACE, REMOVE, LIST, KEEP_ALL, PUT_JUDGED, KEEP_AND_PUT, KEEP_AND_PUT_JUDGED = range(1, 10)
 
 #: What a command comes to.
 ON_DISK, UNSYNCED, GONE, UNSEEN = range(1, 5)
@@ -64,8 +64,8 @@ class Driver:
             *(self._lock_alone, self._lock_shared, self._list, self._read, self._unlock),
         ]
 
-    def follow(self, command: int, part: bytes = b"", names: Iterable[str] = ()) -> int:
-        """What a command comes to.
+    def follow(self, command: int, part: bytes = b"", names: Iterable[str] = (), relied: Iterable[str] = ()) -> int:
+        """What a command comes to. The part relies on those of the last names.
 
         Raises:
             Busy: others have had the folder for ten seconds.
@@ -75,6 +75,8 @@ class Driver:
         turn = calls.Turn.of(command, temporary(), part)
         for name in names:
             turn.name(name)
+        for name in relied:
+            turn.relied(name)
         return self.run(turn, memoryview(part))
 
     def run(self, turn: calls.Turn, part: memoryview) -> int:

@@ -12,7 +12,7 @@ import re
 import secrets
 import stat
 import warnings
-from typing import Iterable, Iterator, Optional
+from typing import Iterable, Iterator, Optional, Sequence
 
 from . import calls, folder_driver
 from .errors import Busy
@@ -82,39 +82,54 @@ def _opened(folder: str, name: str) -> io.FileIO:
     return io.FileIO(folder_driver.open_file(os.path.join(folder, name)))
 
 
-def put(folder: str, data: bytes) -> str:
-    """Puts bytes into a folder as a part, unless it has it; its name. A warning tells that it could not be synced.
+def put(folder: str, data: bytes, relied: Sequence[str] = ()) -> str:
+    """Puts bytes into a folder as a part, unless it has it; its name. A warning tells that it could not be synced. Before that, the parts are
+    on the disk on which it relies, if they are there: what took one away is on the disk.
 
     Raises:
         Damaged: the part of this name has other bytes.
-        OSError: the part can't be written.
+        OSError: the part can't be written; or another one can't be read or synced, and nothing is put.
     """
     name = part_name(data)
-    _put(folder, name, folder_driver.PUT, data, ())
+    _put(folder, name, folder_driver.KEEP_AND_PUT, data, (), relied)
     return name
 
 
-def put_beside(folder: str, data: bytes, seen: Iterable[str]) -> bool:
-    """The same, if the folder has no parts but those of these names; whether it has no others.
+def put_beside(folder: str, data: bytes, seen: Sequence[str], relied: Sequence[str] = ()) -> bool:
+    """The same, if the folder has no parts but those of the names that were seen; whether it has no others.
 
     Raises:
         Busy: others have had the folder for ten seconds.
         OSError: `errno.ENOLCK` if the file system has no locks.
     """
-    return _put(folder, part_name(data), folder_driver.PUT_JUDGED, data, seen) != folder_driver.UNSEEN
+    return _put(folder, part_name(data), folder_driver.KEEP_AND_PUT_JUDGED, data, seen, relied) != folder_driver.UNSEEN
 
 
-def _put(folder: str, name: str, command: int, data: bytes, seen: Iterable[str]) -> int:
+def _put(folder: str, name: str, command: int, data: bytes, seen: Sequence[str], relied: Sequence[str]) -> int:
     """What a put comes to. It is begun anew if a sweep took the temporary, or if the part that was there is gone when it is compared."""
     path = os.path.join(folder, name)
     for _ in range(_TRIES):
         with Driver(folder) as driver, contextlib.suppress(FileExistsError):
-            end = driver.follow(command, data, seen)
+            end = _followed(driver, command, data, seen, relied)
             if end == folder_driver.UNSYNCED:
                 _warn(path)
             if end != folder_driver.GONE:
                 return end
     raise Busy("the part comes and goes", path)
+
+
+def _followed(driver: Driver, command: int, data: bytes, seen: Sequence[str], relied: Sequence[str]) -> int:
+    """What a put comes to.
+
+    Raises:
+        OSError: a part on which it relies can't be synced; or another call failed.
+    """
+    try:
+        return driver.follow(command, data, seen, relied)
+    except OSError:
+        if driver.unsynced is not None and folder_driver.is_part_name(os.path.basename(driver.unsynced[1])):
+            raise _could_not_be_synced(*driver.unsynced) from None
+        raise
 
 
 def keep(folder: str, names: Iterable[str]) -> None:
@@ -123,23 +138,6 @@ def keep(folder: str, names: Iterable[str]) -> None:
     Raises:
         OSError: a part can't be read.
     """
-    for _, path in _unsynced_of(folder, names):
-        _warn(path)
-
-
-def keep_or_raise(folder: str, names: Iterable[str]) -> None:
-    """The same of parts on which a part rests that is put after them.
-
-    Raises:
-        OSError: one can't be read or synced.
-    """
-    first = next(_unsynced_of(folder, names), None)
-    if first is not None:
-        raise _could_not_be_synced(*first)
-
-
-def _unsynced_of(folder: str, names: Iterable[str]) -> Iterator[tuple[OSError, str]]:
-    """Keeps parts; of what can't be synced why, and its path."""
     with Driver(folder) as driver:
         for name in names:  # a turn for each: it costs the time of all that it was told, at each call
             try:
@@ -147,7 +145,7 @@ def _unsynced_of(folder: str, names: Iterable[str]) -> Iterator[tuple[OSError, s
             except OSError:
                 if driver.unsynced is None:
                     raise
-                yield driver.unsynced
+                _warn(driver.unsynced[1])
                 driver.unsynced = None
 
 

@@ -741,9 +741,9 @@ class AtOnce(InFolder):
     def test_a_load_is_put_anew_beside_what_came_meanwhile(self) -> None:
         other, beside, tries = self.empty.import_csv("2,1\n", heading=False, batch="7.8"), part_folder.put_beside, []
 
-        def late(folder: str, data: bytes, seen: list[str]) -> bool:
+        def late(folder: str, data: bytes, seen: list[str], relied: list[str]) -> bool:
             part_folder.put(self.path, other.to_bytes())
-            tries.append(beside(folder, data, seen))
+            tries.append(beside(folder, data, seen, relied))
             return tries[-1]
 
         with unittest.mock.patch.object(part_folder, "put_beside", late):

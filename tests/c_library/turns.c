@@ -49,6 +49,11 @@ static void name(lanes_turn *turn, const char *of) {
     expect(lanes_folder_name(text_of(of), strlen(of), turn, &place) == 0, "a name is added");
 }
 
+static void relied(lanes_turn *turn, const char *of) {
+    lanes_place place;
+    expect(lanes_folder_relied(text_of(of), strlen(of), turn, &place) == 0, "a name of a part on which another relies is added");
+}
+
 static const char *const NAMES[] = {"1.lanes", "2.lanes", "3.lanes"};
 
 /* A command, told these answers, asks for these calls, and is refused with this number and place, or comes to this. A listing gives the first of
@@ -62,8 +67,11 @@ static void comes(uint8_t command, const char *answers, const char *calls, uint8
     char made[64] = "", what[200];
     size_t at = 0, length;
     const char *bytes = "";
-    bool is_about_parts = command == LANES_FOLDER_REPLACE || command == LANES_FOLDER_REMOVE || command == LANES_FOLDER_KEEP_ALL || command == LANES_FOLDER_PUT_JUDGED;
+    bool is_judged = command == LANES_FOLDER_PUT_JUDGED || command == LANES_FOLDER_KEEP_AND_PUT_JUDGED;
+    bool is_relying = command == LANES_FOLDER_KEEP_AND_PUT || command == LANES_FOLDER_KEEP_AND_PUT_JUDGED;
+    bool is_about_parts = is_judged || command == LANES_FOLDER_REPLACE || command == LANES_FOLDER_REMOVE || command == LANES_FOLDER_KEEP_ALL;
     for (int i = 0; is_about_parts && i < 2; i++) name(&turn, NAMES[i]);
+    for (int i = 0; is_relying && i < 2; i++) relied(&turn, NAMES[i]);
     for (; at < sizeof made - 1; at++) {
         uint8_t room[ROOM];
         found = lanes_folder_next(&turn, answer, told_number, text_of(bytes), strlen(bytes), &call, room, sizeof room, &length, &place);
@@ -129,6 +137,19 @@ static void try_put_judged(void) {
     comes(LANES_FOLDER_PUT_JUDGED, "dwfd", "MWSR", LANES_SYSTEM, ENOSPC, false);
 }
 
+/* A part that relies on others is put only once they are kept or gone. */
+static void try_keep_and_put(void) {
+    comes(LANES_FOLDER_KEEP_AND_PUT, "pdpdddwdddd", "FSFSDMWSLRD", 0, LANES_ON_DISK, false);
+    comes(LANES_FOLDER_KEEP_AND_PUT, "npdddwdddf", "FFSDMWSLRD", 0, LANES_UNSYNCED, false);
+    comes(LANES_FOLDER_KEEP_AND_PUT, "pf", "FS", LANES_SYSTEM, ENOSPC, false);
+    comes(LANES_FOLDER_KEEP_AND_PUT, "f", "F", LANES_SYSTEM, ENOSPC, false);
+    comes(LANES_FOLDER_KEEP_AND_PUT, "pdpdf", "FSFSD", LANES_SYSTEM, ENOSPC, false);
+    comes(LANES_FOLDER_KEEP_AND_PUT_JUDGED, "pdpdddwddldddd", "FSFSDMWSENLRDU", 0, LANES_ON_DISK, false);
+    comes(LANES_FOLDER_KEEP_AND_PUT_JUDGED, "pdnddwddmdd", "FSFDMWSENRU", 0, LANES_UNSEEN, false);
+    comes(LANES_FOLDER_KEEP_AND_PUT_JUDGED, "pdpf", "FSFS", LANES_SYSTEM, ENOSPC, false);
+    comes(LANES_FOLDER_KEEP_AND_PUT_JUDGED, "nnddwdfd", "FFDMWSER", LANES_BUSY, 0, false);
+}
+
 static void try_names(void) {
     comes(LANES_FOLDER_LIST, "dld", "HNU", 0, LANES_FOLDER_DONE, false);
     comes(LANES_FOLDER_LIST, "f", "H", LANES_SYSTEM, ENOSPC, false);
@@ -147,9 +168,11 @@ static void try_handle(void) {
     size_t length, part_length;
     expect(lanes_folder_next(&turn, LANES_NOTHING, 0, text_of(""), 0, &call, room, sizeof room, &length, &place) == LANES_NOT_OPEN && call.kind == 7, "no turn");
     expect(lanes_folder_name(text_of("a"), 1, &turn, &place) == LANES_NOT_OPEN, "no turn to name for");
+    expect(lanes_folder_relied(text_of("a"), 1, &turn, &place) == LANES_NOT_OPEN, "nor to rely for");
     expect(lanes_folder_begin(LANES_FOLDER_PUT, text_of("\xff"), 1, text_of(PART), strlen(PART), &turn, &place) == LANES_SYNTAX && !turn.begun, "a name that is no text");
     turn = begun(LANES_FOLDER_PUT);
     expect(lanes_folder_name(text_of("a\xff"), 2, &turn, &place) == LANES_SYNTAX && place.first == 1, "another one");
+    expect(lanes_folder_relied(text_of("a\xff"), 2, &turn, &place) == LANES_SYNTAX && place.first == 1, "one to rely on");
     expect(lanes_folder_next(&turn, LANES_DONE, 0, text_of(""), 0, &call, room, 3, &length, &place) == 0 && call.kind == LANES_CALL_MAKE && length == strlen(TEMPORARY), "too little room");
     expect(lanes_folder_next(&turn, LANES_NOTHING, 0, text_of(""), 0, &call, room, sizeof room, &length, &place) == 0 && call.kind == LANES_CALL_MAKE && !memcmp(room, TEMPORARY, length), "and enough");
     expect(lanes_folder_next(&turn, LANES_DONE, 0, text_of(""), 0, &call, room, sizeof room, &length, &place) == 0 && call.kind == LANES_CALL_WRITE && call.number == 0, "a write");
@@ -167,6 +190,7 @@ int main(void) {
     try_put();
     try_replace();
     try_put_judged();
+    try_keep_and_put();
     try_names();
     try_handle();
     return told_all("turns");
