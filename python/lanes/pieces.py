@@ -76,7 +76,7 @@ def with_text(table: _Table, text: bytes, dialect: Dialect, batch: Optional[Batc
     Raises:
         Refused: the text's first fault with its line, and what an import is refused as.
     """
-    from .offers import drawn_name
+    from .given_columns import drawn_name
 
     pieces = _pieces(text, dialect.has_heading, dialect.has_one_field(table))
     first, second = next(pieces, None), next(pieces, None)

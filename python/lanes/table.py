@@ -157,7 +157,7 @@ class Table:
             Refused: `BadSchema` if a column's name can't be that of a table's column; `OutOfType` of a number past 64 bits; and others.
             TypeError: it is no frame, or values are no whole numbers.
         """
-        from .offers import columns_of
+        from .given_columns import columns_of
 
         return cls._of_columns(name, columns_of(frame), batch)
 
@@ -181,7 +181,7 @@ class Table:
     @classmethod
     def _of_columns(cls: Type[_Self], name: str, columns: Mapping[str, Any], batch: Optional[GivenName]) -> _Self:
         """The table of columns that were given."""
-        from .offers import Column
+        from .given_columns import Column
 
         given = {word: Column(word, data) for word, data in columns.items()}
         empty = cls.create(name, [(word, holding(*column.kind())) for word, column in given.items()])
@@ -515,14 +515,14 @@ class Table:
             ValueError: the columns aren't those of the table, or have several lengths, or `batch` is no name.
             TypeError: values are no whole numbers. Floats aren't rounded.
         """
-        from .offers import with_rows
+        from .given_columns import with_rows
 
         return with_rows(self, columns, name_of(batch) if batch is not None else None, progress)
 
     def import_frame(self: _Self, frame: Any, *, batch: Optional[GivenName] = None, progress: Optional[Progress] = None) -> _Self:
         """The table with the rows of a frame of pandas, whose columns are the table's, in any order. A column of floats is refused, also one
         that pandas made of whole numbers with nulls: `frame.convert_dtypes()` makes Int64 of it."""
-        from .offers import columns_of
+        from .given_columns import columns_of
 
         return self.import_columns(columns_of(frame), batch=batch, progress=progress)
 

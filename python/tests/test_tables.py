@@ -15,7 +15,7 @@ import unittest
 import unittest.mock
 import weakref
 
-from lanes import BatchName, Folder, OutOfMemory, Refused, Table, arrow, library, offers
+from lanes import BatchName, Folder, OutOfMemory, Refused, Table, arrow, given_columns, library
 from lanes import table as table_module
 
 
@@ -319,7 +319,7 @@ class Changes(unittest.TestCase):
             self.assertEqual(empty.import_csv("A\n1\n").dump(names=True), "BATCH,ORDINAL,A\n3.17,0,1\n")
 
     def test_names_are_drawn_of_all_origins_and_numbers(self) -> None:
-        names = [offers.drawn_name(visits(), 1) for _ in range(64)]
+        names = [given_columns.drawn_name(visits(), 1) for _ in range(64)]
         for drawn in {name.origin for name in names}, {name.number for name in names}:
             self.assertEqual(len(drawn), 64)
             self.assertGreater(max(drawn), 1 << 31)
