@@ -1,4 +1,4 @@
-"""Rows of arrays as an offer: plain vectors, which `apply` judges and puts into their canonical form. docs/FORMATS.md has the bytes."""
+"""Columns that are given, as arrays, frames or lists: their numbers and nulls go to the library as they are, some batches at once."""
 
 from __future__ import annotations
 
@@ -6,9 +6,10 @@ import secrets
 from typing import TYPE_CHECKING, Any, List, Mapping, Optional, Tuple, TypeVar
 
 from . import arguments, calls
-from .holdings import Holdings
 from .batch_name import GREATEST, BatchName
 from .columns import BITS, ColumnData
+from .errors import Refused
+from .holdings import Holdings
 from .pieces import AT_ONCE, BATCH, Load, Progress, later, tell
 
 if TYPE_CHECKING:
@@ -17,25 +18,18 @@ if TYPE_CHECKING:
 #: The class of a table.
 _Table = TypeVar("_Table", bound="Table")
 
-#: How many rows a vector has.
-_VECTOR = 1024
-
 #: How often a name is drawn that nobody has.
 _DRAWS = 16
 
 #: The numbers of refusals that are made here.
 _OUT_OF_TYPE, _NUMBERS_SPENT = 7, 9
 
-#: The low bits of a lane's number, reversed, by the width of a value.
-_REVERSED = {8: [0, 4, 2, 6, 1, 5, 3, 7], 16: [0, 2, 1, 3], 32: [0, 1], 64: [0]}
-
 
 def with_rows(table: _Table, columns: Mapping[str, Any], batch: Optional[BatchName], progress: Optional[Progress]) -> _Table:
-    """The table with the rows of arrays. They go in as offers of some batches each, which are made canonical one by one; so there is never
-    much in memory in addition to the arrays.
+    """The table with the rows of columns. They go in some batches at once; so there is never much in memory in addition to the columns.
 
     Raises:
-        Refused: `OutOfType` with the first such row and its column, `NumbersSpent`, and what `apply` refuses.
+        Refused: `OutOfType` with the first such row and its column, `NumbersSpent`, and what the library refuses.
         ValueError: the columns aren't those of the table, or are of several lengths.
         TypeError: values are no whole numbers.
     """
@@ -47,20 +41,40 @@ def with_rows(table: _Table, columns: Mapping[str, Any], batch: Optional[BatchNa
     if not rows:
         return table
     batches = -(-rows // BATCH)
-    name = drawn_name(table, batches) if batch is None else batch
-    later(name, batches - 1)
-    bits, front = [BITS[kind] for kind in table.columns.values()], table._front()
+    if batch is not None:
+        later(batch, batches - 1)
     if rows <= AT_ONCE:
-        made = table.apply(_offer(front, _batches(data, bits, 0, rows, name), batches))
+        made = _with_piece(table, data, 0, rows, batch)
         tell(progress, rows, rows)
         return made
+    name = drawn_name(table, batches) if batch is None else batch
     load = Load(table)
     for first in range(0, rows, AT_ONCE):
-        count = min(AT_ONCE, rows - first)
-        offer = _offer(front, _batches(data, bits, first, count, later(name, first // BATCH)), -(-count // BATCH))
-        load.add(load.empty.apply(offer))
-        tell(progress, first + count, rows)
+        last = min(first + AT_ONCE, rows)
+        load.add(_with_piece(load.empty, data, first, last, later(name, first // BATCH)))
+        tell(progress, last, rows)
     return load.into(table)
+
+
+def _with_piece(table: _Table, columns: List[Column], first: int, last: int, name: Optional[BatchName]) -> _Table:
+    """The table with some of the rows. Without a name one is drawn.
+
+    Raises:
+        Refused: `OutOfType` with the first such row of all and its column; and what the library refuses.
+    """
+    data = [column.piece(first, last) for column in columns]
+    places = _too_large(data, [BITS[kind] for kind in table.columns.values()])
+    try:
+        made = table._with_columns(_numbers(data), _bits(data), name)
+    except Refused as refusal:
+        if refusal.number == _OUT_OF_TYPE:
+            places.append(refusal.place)
+        elif not places:
+            raise
+    if places:
+        row, column = min(places)
+        raise calls.refused(_OUT_OF_TYPE, first + row, column) from None
+    return made
 
 
 def _given(table: Table, columns: Mapping[str, Any]) -> List[Column]:
@@ -135,7 +149,7 @@ class Column:
         return kind.kind, getattr(kind, "itemsize", 8)
 
     def piece(self, first: int, last: int) -> ColumnData:
-        """The data of some rows: 0 at a null."""
+        """The data of some rows. At a null is any number."""
         import numpy as np
 
         if self._series is not None:
@@ -144,9 +158,7 @@ class Column:
             nulls: Any = np.asarray(some.isna(), bool)
         else:
             values, nulls = self._values[first:last], None if self._nulls is None else self._nulls[first:last]
-        if nulls is None or not nulls.any():
-            return ColumnData(values, None)
-        return ColumnData(np.where(nulls, np.zeros((), values.dtype), values), nulls)
+        return ColumnData(values, None if nulls is None or not nulls.any() else nulls)
 
 
 def _listed(name: str, data: Any) -> Any:
@@ -183,20 +195,44 @@ def _is_null(value: Any) -> bool:
     return value is None or type(value).__name__ == "NAType"
 
 
-def _judge(data: List[ColumnData], bits: List[int], first: int) -> None:
-    """Refuses the first row that has a number outside its column's type. The rows are those from one on."""
+def _too_large(data: List[ColumnData], bits: List[int]) -> List[Tuple[int, ...]]:
+    """Of each column of unsigned numbers of 64 bits the first row that has one outside the column's type, and which column it is. As a signed
+    number it would be another one, so the library can't tell."""
     import numpy as np
 
-    found = []
+    found: List[Tuple[int, ...]] = []
     for at, (column, width) in enumerate(zip(data, bits)):
-        lowest, greatest, kind = -(1 << width - 1), (1 << width - 1) - 1, column.values.dtype
-        if kind.kind == "i" and 8 * kind.itemsize <= width:
-            continue
-        if int(column.values.min()) < lowest or int(column.values.max()) > greatest:
-            low = column.values < lowest if kind.kind == "i" else False
-            found.append((first + int(np.argmax(low | (column.values > greatest))), at))
-    if found:
-        raise calls.refused(_OUT_OF_TYPE, *min(found))
+        if column.values.dtype.kind == "u" and column.values.dtype.itemsize == 8:
+            outside = column.values > np.uint64((1 << width - 1) - 1)
+            if column.nulls is not None:
+                outside &= ~column.nulls
+            if outside.any():
+                found.append((int(outside.argmax()), at))
+    return found
+
+
+def _numbers(data: List[ColumnData]) -> Any:
+    """The numbers of columns as the library takes them: of 64 bits, one column after another."""
+    import numpy as np
+
+    numbers = np.empty((len(data), len(data[0].values)), np.int64)
+    for own, column in zip(numbers, data):
+        own[:] = column.values
+    return numbers
+
+
+def _bits(data: List[ColumnData]) -> Any:
+    """The bits of columns as the library takes them: 1 at a value, in 64 bytes for each 512 rows. None if no column has a null."""
+    import numpy as np
+
+    if all(column.nulls is None for column in data):
+        return np.empty(0, np.uint8)
+    rows = len(data[0].values)
+    bits = np.full((len(data), 64 * -(-rows // 512)), 0xFF, np.uint8)
+    for own, column in zip(bits, data):
+        if column.nulls is not None:
+            own[: -(-rows // 8)] = ~np.packbits(column.nulls, bitorder="little")
+    return bits
 
 
 def drawn_name(table: Table, batches: int) -> BatchName:
@@ -217,58 +253,3 @@ def drawn_name(table: Table, batches: int) -> BatchName:
 def _name_bytes(name: BatchName, at: int) -> bytes:
     """The name of a batch that comes so far after another one, as in a file."""
     return name.origin.to_bytes(4, "little") + (name.number + at).to_bytes(4, "little")
-
-
-def _batches(columns: List[Column], bits: List[int], first: int, rows: int, name: BatchName) -> List[Any]:
-    """Batches of some rows, of 65,536 rows each and a shorter last one, as an offer has them, in pieces."""
-    data = [column.piece(first, first + rows) for column in columns]
-    _judge(data, bits, first)
-    vectors = [_vectors(column, width) for column, width in zip(data, bits)]
-    parts: List[Any] = []
-    for at, begin in enumerate(range(0, rows, BATCH)):
-        count = min(BATCH, rows - begin)
-        parts += [_name_bytes(name, at), (count - 1).to_bytes(2, "little")]
-        some = slice(begin // _VECTOR, -(-(begin + count) // _VECTOR))
-        for plain, masks in vectors:
-            parts += _with_masks(plain[some], None if masks is None else masks[some])
-    return parts
-
-
-def _vectors(column: ColumnData, width: int) -> Any:
-    """A column's vectors, as rows of bytes without their null masks, and the masks, or None: FOR with the reference 0 and the full width."""
-    import numpy as np
-
-    rows, size, kind = len(column.values), width // 8, np.dtype(f"<i{width // 8}")
-    count = -(-rows // _VECTOR)
-    flat = column.values if column.values.dtype == kind and rows == count * _VECTOR else np.zeros(count * _VECTOR, kind)
-    if flat is not column.values:
-        flat[:rows] = column.values
-    front = 5 + size
-    vectors = np.empty((count, front + _VECTOR * size), np.uint8)
-    vectors[:, :front] = 0
-    vectors[:, 2] = width
-    # Row 64 j + width q + r is in the word r of lane 16 rev(q) + j.
-    cube = flat.reshape(count, 16, 64 // width, width)
-    words: Any = np.ndarray((count, width, 64 // width, 16), kind, vectors.data, front, (front + _VECTOR * size, 128, 2 * width, size))
-    for lane, part in enumerate(_REVERSED[width]):
-        words[:, :, lane, :] = cube[:, :, part, :].transpose(0, 2, 1)
-    if column.nulls is None:
-        return vectors, None
-    nulls = np.zeros(count * _VECTOR, bool)
-    nulls[:rows] = column.nulls
-    return vectors, np.packbits(nulls.reshape(-1, _VECTOR), axis=1, bitorder="little")
-
-
-def _offer(front: bytes, batches: List[Any], count: int) -> bytes:
-    """The offer of these batches, and of no deletions."""
-    return b"".join([front, count.to_bytes(4, "little"), *batches, bytes(8)])
-
-
-def _with_masks(vectors: Any, masks: Any) -> List[Any]:
-    """Vectors in a row, in pieces: of each a flag, the mask if there is a null, and the rest."""
-    if masks is None or not masks.any():
-        return [vectors]
-    parts: List[Any] = []
-    for vector, mask, is_some in zip(vectors, masks, masks.any(axis=1)):
-        parts += [b"\1", mask, vector[1:]] if is_some else [vector]
-    return parts

@@ -30,6 +30,9 @@ if TYPE_CHECKING:
 #: How much room an answer's text is given at first, and a file beside its inputs.
 _ROOM = 65_536
 
+#: How many bytes a cell takes in a file at most, with its part of what is written of all.
+_CELL = 9
+
 #: How many random words a name is drawn of.
 _WORDS = 8
 
@@ -230,9 +233,13 @@ class Table:
 
     @classmethod
     def _of_opened(cls: Type[_Self], opened: calls.Opened, length: int) -> _Self:
-        """The table of what is open. Its file, which has some such number of bytes, is made when it is asked for."""
-        table = cls(b"")
-        table._held, table._opened, table._room = None, opened, length + _ROOM
+        """The table of what is open. Its file, which has some such number of bytes, is made when it is asked for; that of a subclass, which may
+        look at its file, at once."""
+        room = length + _ROOM
+        table = cls(b"" if cls is Table else opened.file(room))
+        table._opened = opened
+        if cls is Table:
+            table._held, table._room = None, room
         return table
 
     @classmethod
@@ -321,7 +328,7 @@ class Table:
         text = arguments.text_of("sql", sql)
         opened = self._asked()
         with explaining.explained(self, calls.Given(calls.QUERY, text)):
-            return Partial(opened.partial(self._room if self._held is None else self._length() + _ROOM, text))
+            return Partial(opened.partial(self._file_room(), text))
 
     def queries(self, sqls: Iterable[str]) -> list[Answer]:
         """The answers of several queries, in order.
@@ -426,12 +433,21 @@ class Table:
 
     def _with_rows_of(self: _Self, text: bytes, dialect: Dialect, batch: Optional[BatchName]) -> _Self:
         """The table with the rows of a text, by one call."""
-        origin, number = batch if batch is not None else (0, 0)
-        words = (ctypes.c_uint64 * _WORDS)(*(secrets.randbits(64) for _ in range(_WORDS)))
-        named = origin, number, ctypes.addressof(words), _WORDS
         room = self._length() + len(text) + _ROOM
         with explaining.explained(self, dialect.given(text)):
-            return self._made(calls.made(calls.IMPORT_IN, room, self._file, text, *dialect.words(), *named))
+            return self._made(calls.made(calls.IMPORT_IN, room, self._file, text, *dialect.words(), *_named(batch)))
+
+    def _with_columns(self: _Self, numbers: Any, bits: Any, batch: Optional[BatchName]) -> _Self:
+        """The table with the rows of columns: an array of 64-bit numbers that has a row for each column, and the columns' bits, which are 1 at
+        a value, or none if each cell is one.
+
+        Raises:
+            Refused: what the call refuses.
+        """
+        given = numbers.shape[1], (numbers.ctypes.data, numbers.size), (bits.ctypes.data, bits.size)
+        with explaining.explained(self, calls.Given(calls.ROWS, b"")):
+            opened = self._asked().with_columns(*given, _named(batch))
+        return self._of_opened(opened, self._file_room() + _CELL * numbers.size)
 
     def to_numpy(self, columns: Optional[Iterable[str]] = None, where: str = "") -> Columns:
         """The live rows, in order of row name, as arrays of numpy: a dict of `ColumnData`, of each column its values, of the column's own type,
@@ -691,6 +707,10 @@ class Table:
     def _length(self) -> int:
         return calls.length_of(self._file)
 
+    def _file_room(self) -> int:
+        """How much room the file takes at most, also if it isn't made yet."""
+        return self._room if self._held is None else self._length() + _ROOM
+
     def _view(self) -> memoryview:
         """The file's bytes, without a copy."""
         return calls.view_of(self._file)
@@ -723,6 +743,12 @@ class Table:
     def __repr__(self) -> str:
         kind = f"{'lanes.' * (type(self) is Table)}{type(self).__name__}"
         return f"<{kind} {self.name} of {self._length()} bytes>" if self._held is not None or self._opened else f"<{kind}, closed>"
+
+
+def _named(batch: Optional[BatchName]) -> tuple[int, int, Any, int]:
+    """The name of an import as its call takes it: with random words, of which one is drawn if none is given."""
+    origin, number = batch if batch is not None else (0, 0)
+    return origin, number, (ctypes.c_uint64 * _WORDS)(*(secrets.randbits(64) for _ in range(_WORDS))), _WORDS
 
 
 def _table_of(other: object) -> Table:

@@ -166,6 +166,11 @@ def rows_that_do_not_fit_are_refused():
         ({"A": good, "B": np.array([1, 1 << 63, 2], np.uint64)}, Refused, "row 1, column 1"),
         ({"A": [1, 2, 128], "B": np.array([1, 1 << 63, 2], np.uint64)}, Refused, "row 1, column 1"),
         ({"A": np.arange(300_000) // 299_999 * 200, "B": np.arange(300_000)}, Refused, "row 299999, column 0"),
+        ({"A": np.array([1, (1 << 64) - 1, 2], np.uint64), "B": good}, Refused, "row 1, column 0"),
+        ({"A": np.array([1, 128, (1 << 64) - 1], np.uint64), "B": np.array([1, 2, 1 << 63], np.uint64)}, Refused, "row 1, column 0"),
+        ({"A": [1, 2, 128], "B": np.array([1, 2, 1 << 63], np.uint64)}, Refused, "row 2, column 0"),
+        ({"A": [1, 128, 2], "B": np.array([1, 2, 1 << 63], np.uint64)}, Refused, "row 1, column 0"),
+        ({"A": np.arange(300_000) // 299_999 * 200, "B": np.arange(300_000, dtype=np.uint64) // 299_998 << 63}, Refused, "row 299998, column 1"),
     ]:
         try:
             table.import_columns(columns, batch="1.1")
@@ -174,11 +179,17 @@ def rows_that_do_not_fit_are_refused():
             continue
         raise AssertionError(f"{columns} was taken")
     held = table.import_columns({"A": good, "B": good}, batch="1.1")
-    for batch, name in [("1.1", "Conflict"), ("1.0", "BadName")]:
+    past = np.array([4, 5, 1 << 63], np.uint64)
+    for batch, numbers, words in [
+        ("1.1", [4, 5, 6], "Conflict 1.1: this has batch 1.1 already, with other rows"),
+        ("1.0", [4, 5, 6], "BadName: "),
+        ("1.1", past, "OutOfType 2 1: row 2, column 1"),
+        ("1.0", past, "OutOfType 2 1: row 2, column 1"),
+    ]:
         try:
-            held.import_columns({"A": good, "B": [4, 5, 6]}, batch=batch)
+            held.import_columns({"A": good, "B": numbers}, batch=batch)
         except Refused as refusal:
-            assert refusal.name == name
+            assert str(refusal).startswith(words), refusal
             continue
         raise AssertionError(f"other rows were taken under {batch}")
     try:
@@ -207,9 +218,37 @@ def rows_go_in_from_arrays_of_every_kind():
         assert listed(table.import_columns({"A": data}, batch="1.1").to_numpy()["A"]) == [1, 2, 300], data
     big = np.arange(1024, dtype=">i2")  # a whole vector
     assert listed(table.import_columns({"A": big}, batch="1.1").to_numpy()["A"]) == list(range(1024))
+    large = ColumnData(np.array([1, (1 << 64) - 1, 3], np.uint64), np.array([False, True, False]))
+    assert listed(table.import_columns({"A": large}, batch="1.1").to_numpy()["A"]) == [1, None, 3]
     under = np.ma.MaskedArray(np.array([1, 1 << 40, 3]), [False, True, False])  # what is under the mask is no value
     for data in under, ColumnData(under.data, under.mask):
         assert listed(table.import_columns({"A": data}, batch="1.1").to_numpy()["A"]) == [1, None, 3]
+
+
+class Sized(Table):
+    """A table that looks at its file when it is made."""
+
+    def __init__(self, file):
+        super().__init__(file)
+        self.size, self.held_names = len(bytes(file)), [*self.columns]
+
+
+def tables_of_columns_are_those_of_their_files():
+    """Rows of a few batches go into what is open, and those of many into a file."""
+    for kind in Table, Sized:
+        empty = kind.create("T", {"A": "SMALLINT", "B": "BIGINT"})
+        for rows in 1, 65_536, 65_537, 262_144, 262_145:
+            columns, rest = {"A": np.arange(rows) % 300, "B": np.arange(rows)}, {"A": [1, 2], "B": [3, None]}
+            csv = "".join(f"{row % 300},{row}\n" for row in range(rows))
+            wanted = empty.import_csv(csv, heading=False, batch="1.1")
+            first = empty.import_columns(columns, batch="1.1")
+            assert first.query("SELECT COUNT(*),SUM(B) FROM T") == [(rows, rows * (rows - 1) // 2)]
+            found = first.import_columns(rest, batch="2.1")
+            assert type(found) is kind and found == wanted.import_csv("1,3\n2,\n", heading=False, batch="2.1")
+            assert first == wanted and first.import_columns(columns, batch="1.1") == wanted and len(first.import_columns(rest)) == rows + 2
+            assert found.delete("A > 0").delete_rows("2.1", 0).forget() == Table.from_bytes(found.to_bytes()).delete("A > 0").delete_rows("2.1", 0).forget()
+            if kind is Sized:
+                assert (first.size, found.size, found.held_names) == (len(first.to_bytes()), len(found.to_bytes()), ["A", "B"])
 
 
 def rows_about_the_ends_of_vectors_have_their_nulls():
