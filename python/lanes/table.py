@@ -39,8 +39,8 @@ _WORDS = 8
 #: How many bytes of two files are compared at once.
 _PIECE = 1 << 20
 
-#: The numbers of refusals that are made here.
-_BAD_SCHEMA, _BAD_RANGE = 12, 23
+#: The number of a refusal that is made here.
+_BAD_SCHEMA = 12
 
 #: How many bytes have the front of a file, whatever its schema.
 _FRONT = 4096
@@ -574,13 +574,11 @@ class Table:
                 to all shares of a table.
 
         Raises:
-            Refused: `BadRange` if `last` is before `first`; `BadName`.
+            Refused: `BadName`; `BadRange` if `last` is before `first`.
             ValueError: `batch` is no name, or a number is no ordinal.
         """
         name, begin = name_of(batch), _ordinal("first", first)
         end = begin if last is None else _ordinal("last", last)
-        if end < begin:
-            raise calls.refused(_BAD_RANGE)
         rows, room = (name.origin, name.number, begin, end), self._length() + _ROOM
         file = self._asked().without_held(room, *rows) if arguments.flag_of("held", held) else self._asked().without_rows(room, *rows)
         return self if file is None else self._made(file)

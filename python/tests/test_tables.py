@@ -326,10 +326,11 @@ class Changes(unittest.TestCase):
             self.assertLess(min(drawn), 1 << 31)
 
     def test_rows_that_are_none_are_refused(self) -> None:
-        for batch, first, last, name in [("1.1", 2, 1, "BadRange"), ("1.0", 0, 0, "BadName"), ("0.1", 0, 0, "BadName")]:
-            with self.subTest(batch=batch), self.assertRaises(Refused) as caught:
-                visits().delete_rows(batch, first, last)
-            self.assertEqual(caught.exception.name, name)
+        for batch, first, last, name in [("1.1", 2, 1, "BadRange"), ("9.9", 2, 1, "BadRange"), ("1.0", 0, 0, "BadName"), ("0.1", 2, 1, "BadName")]:
+            for held in False, True:
+                with self.subTest(batch=batch, held=held), self.assertRaises(Refused) as caught:
+                    visits().delete_rows(batch, first, last, held=held)
+                self.assertEqual(caught.exception.name, name)
         for first, last in [(-1, 0), (0, 65_536), (65_536, None)]:
             with self.subTest(first=first), self.assertRaises(ValueError):
                 visits().delete_rows("1.1", first, last)
