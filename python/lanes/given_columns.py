@@ -69,7 +69,7 @@ def _with_piece(table: _Table, columns: List[Column], first: int, last: int, nam
     except Refused as refusal:
         if refusal.number == _OUT_OF_TYPE:
             places.append(refusal.place)
-        elif not places:
+        elif not places or refusal.number == calls.MEMORY:
             raise
     if places:
         row, column = min(places)
