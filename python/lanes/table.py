@@ -744,9 +744,10 @@ class Table:
 
 
 def _named(batch: Optional[BatchName]) -> tuple[int, int, Any, int]:
-    """The name of an import as its call takes it: with random words, of which one is drawn if none is given."""
+    """The name of an import as its call takes it: if none is given, random words of which one is drawn."""
     origin, number = batch if batch is not None else (0, 0)
-    return origin, number, (ctypes.c_uint64 * _WORDS)(*(secrets.randbits(64) for _ in range(_WORDS))), _WORDS
+    words = [] if batch is not None else [secrets.randbits(64) for _ in range(_WORDS)]
+    return origin, number, (ctypes.c_uint64 * len(words))(*words), len(words)
 
 
 def _table_of(other: object) -> Table:

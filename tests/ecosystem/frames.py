@@ -6,6 +6,7 @@ from __future__ import annotations
 import ctypes
 import gc
 import random
+import unittest.mock
 from decimal import Decimal
 
 import lanes
@@ -249,6 +250,13 @@ def tables_of_columns_are_those_of_their_files():
             assert found.delete("A > 0").delete_rows("2.1", 0).forget() == Table.from_bytes(found.to_bytes()).delete("A > 0").delete_rows("2.1", 0).forget()
             if kind is Sized:
                 assert (first.size, found.size, found.held_names) == (len(first.to_bytes()), len(found.to_bytes()), ["A", "B"])
+
+
+def a_name_is_drawn_that_has_neither_rows_nor_deletions():
+    held = Table.create("T", {"A": "INTEGER"}).import_columns({"A": [1]}, batch="1.1").delete_rows("2.2", 9)
+    words = [0, 7, 1 << 32, (2 << 32) + 1, (3 << 32) + 2, 4 << 32, 0, 0]  # those below 1 << 32 serve for no name
+    with unittest.mock.patch.object(lanes.table.secrets, "randbits", side_effect=words):
+        assert held.import_columns({"A": [2]}) == held.import_columns({"A": [2]}, batch="3.3")
 
 
 def rows_about_the_ends_of_vectors_have_their_nulls():
