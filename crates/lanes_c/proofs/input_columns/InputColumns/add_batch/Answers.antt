@@ -4,4 +4,4 @@ use Rattle.lanes_c.proofs.InputLoads.{refusal_below}
 use Rattle.lanes_c.proofs.input_columns.InputColumns.add_batch.Goals as goal
 
 pub later-requires-clause-row : goal.later-requires-clause-row
-later-requires-clause-row c = refusal_below c.args.load.now (array_rows c.min-count.result c.in_ok-arrays.arrays.items) c.in-Err.refusal c.in-Err.ensures.refused
+later-requires-clause-row c = refusal_below c.args.load.now (array_rows c.min-count.result c.as_slice.result.now) c.in-Err.refusal c.in-Err.ensures.refused
