@@ -222,7 +222,7 @@ def _numbers(data: List[ColumnData]) -> Any:
 
 
 def _bits(data: List[ColumnData]) -> Any:
-    """The bits of columns as the library takes them: 1 at a value, in 64 bytes for each 512 rows. None if no column has a null."""
+    """The bits of columns as the library takes them: 1 at a value, in 64 bytes for each 512 rows of a column; no bytes if no column has a null."""
     import numpy as np
 
     if all(column.nulls is None for column in data):

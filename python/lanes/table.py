@@ -707,7 +707,8 @@ class Table:
 
     def _file_room(self) -> int:
         """How much room the file takes at most, also if it isn't made yet."""
-        return self._room if self._held is None else self._length() + _ROOM
+        held = self._held
+        return self._room if held is None else calls.length_of(held) + _ROOM
 
     def _view(self) -> memoryview:
         """The file's bytes, without a copy."""
