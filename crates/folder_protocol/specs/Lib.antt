@@ -1,3 +1,4 @@
+pub mod Finding
 pub mod Goes
 pub mod Premises
 pub mod Reads

@@ -41,8 +41,9 @@ fn keep_one<F: Folder>(alloc: Global, folder: &mut F, name: &str) -> io::Result<
     ensures plain { GoesPlainly (F.history folder.old) (F.history folder.new) }
     ensures missed { (parts : Parts) → OnOk result (IsSyncedOrMissed parts name.now (F.history folder.old) (F.history folder.new)) }
 {
-    match folder.read(alloc, name)? {
-        Some(_found) => folder.sync(),
-        None => Ok(()),
+    if folder.read_whole(alloc, name)? {
+        folder.sync()
+    } else {
+        Ok(())
     }
 }
