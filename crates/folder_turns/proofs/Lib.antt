@@ -1,4 +1,5 @@
 pub mod Ends
+pub mod Finding
 pub mod Runs
 pub mod Steps
 pub mod Straying

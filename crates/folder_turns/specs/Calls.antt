@@ -1,5 +1,5 @@
 -- Which calls of a folder's history are asked for and told.
-use Rattle.std.specs.Prelude.{ℕ, Bool, true, false, List, [], ◌∷◌, ◌++◌, map, take, drop, length, leb, not, if◌then◌else◌, Option, Some, None}
+use Rattle.std.specs.Prelude.{◌≡◌, ℕ, Bool, true, false, List, [], ◌∷◌, ◌++◌, map, take, drop, length, leb, not, if◌then◌else◌, Option, Some, None}
 use Rattle.std.specs.String.{string_bytes}
 use Rattle.folder_model.specs.Call.{Call, Made, Wrote, Synced, Linked, Removed, Settled, Locked, Unlocked, Began, Listed, Read, Looked, Exclusive, Shared, Linking, Done, Taken, Failed}
 use Rattle.folder_turns.specs.declared.request.Request.{Request}
@@ -94,6 +94,11 @@ abbrev pub found_of : Answer → Option (Option (List ℕ))
 found_of answers.Missing = Some None
 found_of (answers.Found bytes) = Some (Some bytes.items)
 found_of answer = None
+
+-- whether a read found a file
+abbrev pub FoundIs : Bool → Option (Option (List ℕ)) → Type 0
+FoundIs true given = (bytes : List ℕ) × (given ≡ Some (Some bytes))
+FoundIs false given = given ≡ Some None
 
 -- the calls that are noted once a call that was asked for is answered, the newest first
 abbrev pub answered : Call → Answer → List Call

@@ -2,7 +2,7 @@
 ghost use Rattle.std.specs.Prelude.{◌≡◌, ◌≤◌, List, Some, None, true, false, length, map, take, is_ok, IfOk, MatchOption, MatchResult, option_map, if◌then◌else◌};
 ghost use Rattle.std.specs.String.{string_bytes};
 ghost use Rattle.folder_model.specs.Call.{Wrote, Done, Taken, Failed};
-ghost use Rattle.folder_turns.specs.Calls.{is_done, linking_of, write_of, names_of, found_of};
+ghost use Rattle.folder_turns.specs.Calls.{FoundIs, is_done, linking_of, write_of, names_of, found_of};
 
 use crate::request::Answer;
 use std::alloc::{AllocError, Global};
@@ -46,6 +46,18 @@ pub fn linked(answer: Option<&Answer>) -> io::Result<bool>
     match answer {
         Some(Answer::Done) => Ok(true),
         Some(Answer::Taken) => Ok(false),
+        _ => Err(error_of(answer)),
+    }
+}
+
+/// A read of which the bytes are not given: whether there is a file.
+pub fn found(answer: Option<&Answer>) -> io::Result<bool>
+    ensures { MatchOption answer.entry (is_ok result ≡ false)
+        (λ told. MatchResult result (λ there. FoundIs there (found_of told.now)) (λ _. found_of told.now ≡ None)) }
+{
+    match answer {
+        Some(Answer::Found { .. }) => Ok(true),
+        Some(Answer::Missing) => Ok(false),
         _ => Err(error_of(answer)),
     }
 }

@@ -9,7 +9,7 @@ ghost use Rattle.folder_turns.specs.Straying.{TurnsAway};
 ghost use Rattle.folder_turns.specs.declared.replay.Fault.TheVariants.{Strayed};
 ghost use Rattle.folder_turns.specs.declared.request.Request.{Request};
 
-use crate::answering::{done, error_of, linked, listed, read, written};
+use crate::answering::{done, error_of, found, linked, listed, read, written};
 use crate::request::{Answer, Request, Told};
 use crate::script::Script;
 use crate::settling::may_settle;
@@ -292,6 +292,11 @@ impl<'a, S: Script> Folder for Replay<'a, S> {
                 Err(error_of(None))
             }
         }
+    }
+
+    /// The bytes are not copied.
+    fn read_whole(&mut self, _alloc: Global, name: &str) -> io::Result<bool> {
+        found(self.follow(Wanted::ReadFile(name)))
     }
 }
 
