@@ -255,11 +255,14 @@ class Folder:
         if refusal is not None:
             raise refusal
         whole = given[0] if len(given) == 1 else own.file(sum(map(len, given)))
+        del own  # what all parts hold is in memory, too, and it is not needed any more once it has answered
         batches, part = basis.held._bring(whole)
+        names, relied = basis.names, basis.relied
+        del basis, whole
         if part:
-            self._put_beside(part, basis)
-        elif bytes(own.file(0)) != empty.to_bytes():
-            part_folder.keep(self.path, basis.names)
+            self._put_beside(part, names, relied)
+        elif bytes(_all_of(given, empty._asked())[0].file(0)) != empty.to_bytes():
+            part_folder.keep(self.path, names)
         return batches
 
     def pack(self, *, everything: bool = False) -> Tuple[int, int]:
@@ -386,12 +389,19 @@ class Folder:
             FileNotFoundError: one is gone.
         """
         for name in names:
-            data = part_folder.read_part(self.path, name)
-            try:
-                with explaining.of_input(data):
-                    take(name, data)
-            except Refused as refusal:
-                raise self._of_part(refusal, name) from None
+            self._take(name, part_folder.read_part(self.path, name), take)
+
+    def _take(self, name: str, data: bytes, take: Callable[[str, bytes], None]) -> None:
+        """Takes a part that was read. Nothing here keeps its bytes: the next part is read once they are gone.
+
+        Raises:
+            Refused, Damaged: of the part.
+        """
+        try:
+            with explaining.of_input(data):
+                take(name, data)
+        except Refused as refusal:
+            raise self._of_part(refusal, name) from None
 
     def _gathered(self, names: list[str], taken: _Taken, rests_on: Callable[[bytes], bool]) -> Tuple[_Taken, list[str]]:
         """What is made of the parts of these names, once each of them is taken; and the names of those on which a change rests.
@@ -476,10 +486,12 @@ class Folder:
         """The same of a load under a given name: the batches that the folder does not have, if no other such load came meanwhile."""
         basis = self._basis_of_load(load, first)
         batches, part = basis.held._bring(load._file)
+        names, relied = basis.names, basis.relied
+        del basis
         if part:
-            self._put_beside(part, basis)
+            self._put_beside(part, names, relied)
         else:
-            part_folder.keep(self.path, basis.relied)
+            part_folder.keep(self.path, relied)
         return batches
 
     def _holds(self, batch: BatchName) -> bool:
@@ -487,17 +499,17 @@ class Folder:
         (skim, _), _ = self._looked(lambda names: self._gathered(names, Skim(batch, 1), lambda data: False))
         return skim.opened()[0].batches() > 0
 
-    def _put_beside(self, part: bytes, basis: _Basis) -> None:
-        """Puts the part of a change, which goes with all parts that it was made of, if no others are there. If one came since, it is looked at,
-        and the part is put anew: of two parts that are put at once, and have other rows under one name, one is refused. If the file system
-        has no lock of the folder it goes without, and readers find the two. Those on which the change rests are kept before.
+    def _put_beside(self, part: bytes, names: list[str], relied: list[str]) -> None:
+        """Puts the part of a change, which goes with the parts of these names, of which it was made, if no others are there. If one came
+        since, it is looked at, and the part is put anew: of two parts that are put at once, and have other rows under one name, one is
+        refused. If the file system has no lock of the folder it goes without, and readers find the two. Those on which the change rests are
+        kept before.
 
         Raises:
             Refused: `Conflict`.
             Busy: others have had the folder for ten seconds, or parts have come for so long.
             OSError: a part on which it rests can't be synced, and nothing is put.
         """
-        names = basis.names
 
         def look(found: list[str]) -> None:
             since = [name for name in found if name not in names]
@@ -506,14 +518,14 @@ class Folder:
 
         wait = self._wait()
         try:
-            while not part_folder.put_beside(self.path, part, names, basis.relied):
+            while not part_folder.put_beside(self.path, part, names, relied):
                 _, names = self._looked(look)
                 wait.again()
         except OSError as fault:
             if fault.errno != errno.ENOLCK:
                 raise
             self._looked(look)
-            part_folder.put(self.path, part, basis.relied)
+            part_folder.put(self.path, part, relied)
 
     def _sized(self) -> list[Tuple[int, str]]:
         """The parts with their sizes, the smallest first."""

@@ -92,6 +92,7 @@ class Driver:
                 kind, number, text = turn.next(*told)
             except Refused as refusal:
                 raise self._why(refusal) from None
+            told = (_NOTHING, 0, b"")  # the library has the bytes of a part that was read, and the next one may come
             if kind == 0:
                 return number
             told = self._told(turn, kind, number, os.fsdecode(text))
