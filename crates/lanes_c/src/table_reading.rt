@@ -13,7 +13,7 @@ use crate::opening::opened_file;
 use crate::room::hand_out;
 use crate::taking::taken;
 use answer_formats::ReportForm;
-use column_file::export;
+use column_file::export_bytes;
 use replica_reports::{OpenFile, held_digest, inspect};
 use replica_store::Store;
 use std::alloc::Global;
@@ -25,9 +25,7 @@ fn file_of(alloc: Global, store: &Store) -> Result<Vec<u8>, Fault>
     ensures file { Yields (given_by result) (Ok (file_of store.now.replica)) }
     ensures opens { IfOk result (λ file. held_in file.items ≡ Ok (as_held store.now.replica)) }
 {
-    let mut writer = Counted::new(Vec::new(alloc));
-    let done = export(alloc, store, &mut writer);
-    taken(done, writer)
+    Ok(export_bytes(alloc, store)?)
 }
 
 /// The digest of what a store holds, as text.
