@@ -16,7 +16,6 @@ use replica_store::Store;
 use std::alloc::AllocError;
 use std::fs::{self, File, Files};
 use std::rt::Clock;
-use table_model::{Counted, Refusal};
 use table_spread::NameRuns;
 
 /// What is said of an output that is named twice.
@@ -124,14 +123,7 @@ fn make_share<R: Host>(
     index: usize,
     out: &str,
 ) -> Result<Made, Failure> {
-    let mut writer = Counted::new(Vec::new(rt.alloc()));
-    if runs
-        .write_share(rt.alloc(), store, index, &mut writer)
-        .is_err()
-    {
-        return Err(Failure::from(Refusal::Memory));
-    }
-    let bytes = writer.into_inner();
+    let bytes = runs.share_bytes(rt.alloc(), store, index)?;
     match Home::to_make(out) {
         Home::Folder(out) => make_part(rt, out, bytes.as_slice()),
         Home::File(out) => make_file(rt, out, bytes.as_slice()),

@@ -14,20 +14,16 @@ use crate::fault::{Fault, Place};
 use crate::handle::Table;
 use crate::joined::Joined;
 use crate::room::{fill, hand_out};
-use crate::taking::taken;
 use replica_store::Store;
 use std::alloc::Global;
 use std::mem::replace;
-use table_model::Counted;
 use table_spread::NameRuns;
 
 /// The file of one share.
 fn share_file(alloc: Global, runs: &NameRuns, store: &Store, index: usize) -> Result<Vec<u8>, Fault>
     ensures { IsSpelled (given_by result) (canonical_file store.now.replica.schema (share_of runs.now index store.now.replica.state)) }
 {
-    let mut writer = Counted::new(Vec::new(alloc));
-    let done = runs.write_share(alloc, store, index, &mut writer);
-    taken(done, writer)
+    Ok(runs.share_bytes(alloc, store, index)?)
 }
 
 /// The files of the first shares, one after another, and the place at which each of them ends.

@@ -1,22 +1,22 @@
 //! The runs of names that the shares of a table have.
-ghost use Rattle.std.specs.Prelude.{◌≡◌, ◌∷◌, [], ◌++◌, ◌==◌, ◌+◌, ◌≤◌, ◌<◌, length, Ok, IfOk, OnOk};
+ghost use Rattle.std.specs.Prelude.{◌≡◌, ◌∷◌, [], ◌++◌, ◌==◌, ◌+◌, ◌≤◌, ◌<◌, length, Ok, IfOk, IfErr, OnOk};
 ghost use Rattle.std.specs.FinMap as map;
 ghost use Rattle.std.specs.FinMap.Entries.{where_key};
 ghost use Rattle.table_model.specs.Name.{name_cmp};
 ghost use Rattle.table_model.specs.Outcome.{Gives};
-ghost use Rattle.column_file.specs.Files.{canonical_file, Exports, HasFile, OpensTo};
+ghost use Rattle.table_model.specs.declared.refusal.Refusal.TheVariants.{Memory};
+ghost use Rattle.column_file.specs.Files.{canonical_file, HasFile, OpensTo};
 ghost use Rattle.replica_store.specs.Exchange.{AreOffered};
 ghost use Rattle.table_spread.specs.Spread.{run_of, is_in_run, goes_to, deletions_of, share_of, share_in};
 
 use crate::division::{Division, bytes_of};
 use catalogue_join::{Held, Tombs};
-use column_file::export;
+use column_file::export_bytes;
 use replica_store::{Offer, Store};
 use segment_core::Segment;
 use std::alloc::{AllocError, Global};
-use std::io::Write;
 use std::marker::Model;
-use table_model::{BatchName, Counted, Refusal};
+use table_model::{BatchName, Refusal};
 
 /// The runs of names that the shares of a table have, one after another in ascending order. Contracts see the names that they begin
 /// with, all but the first, which begins with the least name.
@@ -165,20 +165,19 @@ impl NameRuns {
         Offer::from_parts(schema, entries, tombs).into_store(alloc, store.own())
     }
 
-    /// Writes the canonical file of the share of this index. Refused are `Memory`, before anything is written, and then `WriteFault`,
-    /// after which a beginning of the bytes was written.
-    pub fn write_share<W: Write>(
+    /// The bytes of the canonical file of the share of this index, in memory. Refused is only `Memory`.
+    pub fn share_bytes(
         &self,
         alloc: Global,
         store: &Store,
         index: usize,
-        writer: &mut Counted<W>,
-    ) -> Result<(), Refusal>
-        ensures written { Exports result (W.contents writer.old.0) (W.contents writer.new.0) writer.old.1 writer.new.1 (canonical_file store.now.replica.schema (share_of self.now index store.now.replica.state)) }
-        ensures file { OnOk result (HasFile store.now.replica.schema (share_of self.now index store.now.replica.state)) }
-        ensures opens { OnOk result (OpensTo (canonical_file store.now.replica.schema (share_of self.now index store.now.replica.state)) store.now.replica.schema (share_of self.now index store.now.replica.state)) }
+    ) -> Result<Vec<u8>, Refusal>
+        ensures bytes { IfOk result (λ file. file.items ≡ canonical_file store.now.replica.schema (share_of self.now index store.now.replica.state)) }
+        ensures file { IfOk result (λ _. HasFile store.now.replica.schema (share_of self.now index store.now.replica.state)) }
+        ensures opens { IfOk result (λ _. OpensTo (canonical_file store.now.replica.schema (share_of self.now index store.now.replica.state)) store.now.replica.schema (share_of self.now index store.now.replica.state)) }
+        ensures refused { IfErr result (λ e. e ≡ Memory) }
     {
         let share = self.share(alloc, store, index)?;
-        export(alloc, &share, writer)
+        Ok(export_bytes(alloc, &share)?)
     }
 }
