@@ -2,6 +2,8 @@
 #![tactic(auto)]
 
 #[cfg(test)]
+mod arrays_tests;
+#[cfg(test)]
 mod bytes_tests;
 #[cfg(test)]
 mod refused_tests;
