@@ -11,5 +11,5 @@ mod said;
 pub use done::{Done, Reply};
 pub use heads::{Head, Headed, Heads, schema_in};
 pub use loading::{DRAWS, load_of, random_words};
-pub use offers::{OfferTables, read_offers};
+pub use offers::{OfferTables, batches_of, read_offers};
 pub use said::{say, say_left, say_line};

@@ -1,5 +1,6 @@
 //! Offers that are applied: they are read one after another, and a refusal tells of their tables.
 
+use catalogue_join::Held;
 use command_line::Source;
 use program_failures::{Failure, unread_by};
 use program_inputs::{Host, Progress, SourceReader, is_folder, source_of};
@@ -87,4 +88,23 @@ fn first_other<'a>(offers: &'a [Offer], wanted: &Schema) -> Option<(usize, &'a S
         }
     }
     None
+}
+
+/// The names of the batches that offers bring.
+pub fn batches_of(alloc: Global, offers: &[Offer]) -> Result<Held, AllocError> {
+    let mut names = Held::new(alloc);
+    for offer in offers {
+        add_batches(&mut names, offer)?;
+    }
+    Ok(names)
+}
+
+/// Adds the names of an offer's batches.
+fn add_batches(names: &mut Held, offer: &Offer) -> Result<(), AllocError> {
+    for (name, _) in offer.entries() {
+        if name.is_proper() {
+            names.insert(*name)?;
+        }
+    }
+    Ok(())
 }

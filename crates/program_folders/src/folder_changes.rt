@@ -6,19 +6,17 @@ use crate::named_imports::import_named;
 use crate::part_failures::unmade;
 use crate::part_heads::read_heads;
 use crate::putting::{make_folder, put_part, put_relying};
-use catalogue_join::Held;
 use command_line::{CsvForm, Source};
 use file_commands::{HeldRows, Left};
 use folder_commands::Reliance;
 use folder_parts::{check_room, part_alone, part_of};
-use program_changes::{Done, OfferTables, Reply, load_of, random_words, read_offers};
+use program_changes::{Done, OfferTables, Reply, batches_of, load_of, random_words, read_offers};
 use program_failures::{Failure, of_other_table};
 use program_inputs::{Host, Progress, is_there};
 use refusal_sentences::{CommandRefusal, is_of_a_text};
 use replica_changes::Command;
 use replica_reports::OpenFile;
-use replica_store::{Offer, Store};
-use std::alloc::{AllocError, Global};
+use replica_store::Store;
 use table_model::{BatchName, ColType, Counted, Refusal, RowName, Schema};
 
 /// Makes a folder that has the empty table as its one part.
@@ -131,12 +129,8 @@ pub fn delete_rows<R: Host>(
     last: u16,
 ) -> Result<Done, Failure> {
     let heads = read_heads(rt, folder)?;
-    put_alone(
-        rt,
-        folder,
-        &heads.schema,
-        Command::DeleteRows { first, last },
-    )
+    let command = Command::DeleteRows { first, last };
+    put_alone(rt, folder, &heads.schema, command)
 }
 
 /// Puts the deletion of rows by their names into a folder as one part, if a part of the folder holds their batch.
@@ -154,12 +148,7 @@ pub fn delete_held_rows<R: Host>(
     if let Err(refusal) = part_alone(rt.alloc(), schema, command, &mut writer) {
         return Err(unmade(rt, folder, refusal));
     }
-    let is_held = opened
-        .held
-        .store()
-        .summary(rt.alloc())?
-        .names()
-        .holds(first.batch);
+    let is_held = opened.held.store().holds(first.batch);
     let left = if is_held {
         Left::Changed(put_part(rt, folder, writer.into_inner().as_slice())?)
     } else {
@@ -202,23 +191,4 @@ pub fn apply<R: Host>(
         }
         Err(refusal) => Err(unmade(rt, folder, refusal)),
     }
-}
-
-/// The names of the batches that offers bring.
-fn batches_of(alloc: Global, offers: &[Offer]) -> Result<Held, AllocError> {
-    let mut names = Held::new(alloc);
-    for offer in offers {
-        add_batches(&mut names, offer)?;
-    }
-    Ok(names)
-}
-
-/// Adds the names of an offer's batches.
-fn add_batches(names: &mut Held, offer: &Offer) -> Result<(), AllocError> {
-    for (name, _) in offer.entries() {
-        if name.is_proper() {
-            names.insert(*name)?;
-        }
-    }
-    Ok(())
 }

@@ -99,12 +99,15 @@ fn skim_once<'r, R: Host>(
     let passed = passed_in(rt.alloc(), &mut system, is_careful)?;
     let passed = passed.as_slice();
     match folder_commands::skim_folder(rt.alloc(), &mut system, passed, names) {
-        Ok(Some(skimmed)) => {
-            let Skimmed {
-                names,
-                held,
-                relied,
-            } = skimmed;
+        Ok(
+            Some(
+                Skimmed {
+                    names,
+                    held,
+                    relied,
+                },
+            ),
+        ) => {
             let parts = Parts::among(rt.alloc(), names, system.unreadable(), passed)?;
             let basis = Basis {
                 parts,
