@@ -7,7 +7,7 @@ use crate::part_heads::read_heads;
 use crate::rounds::Rounds;
 use crate::told_folder::ToldFolder;
 use command_line::{CsvForm, Source};
-use folder_commands::{Reliance, Skimmed};
+use folder_commands::Reliance;
 use folder_parts::{LoadNames, SkimmedParts, part_of};
 use program_changes::{Done, load_of};
 use program_failures::Failure;
@@ -99,22 +99,15 @@ fn skim_once<'r, R: Host>(
     let passed = passed_in(rt.alloc(), &mut system, is_careful)?;
     let passed = passed.as_slice();
     match folder_commands::skim_folder(rt.alloc(), &mut system, passed, names) {
-        Ok(
-            Some(
-                Skimmed {
-                    names,
-                    held,
-                    relied,
-                },
-            ),
-        ) => {
-            let parts = Parts::among(rt.alloc(), names, system.unreadable(), passed)?;
+        Ok(Some(skimmed)) => {
+            let unreadable = system.unreadable();
+            let parts = Parts::among(rt.alloc(), skimmed.names, unreadable, passed)?;
             let basis = Basis {
                 parts,
-                relied,
+                relied: skimmed.relied,
                 system: system.into_inner(),
             };
-            Ok((held, basis))
+            Ok((skimmed.held, basis))
         }
         Ok(None) => Err(Unread::Refused(no_part(rt.alloc(), folder))),
         Err(fault) => Err(system.why(fault)),
