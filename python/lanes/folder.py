@@ -11,10 +11,11 @@ from . import arguments, calls, explaining, folder_driver, part_folder, resting
 from .answer import Answer
 from .batch_name import BatchName, GivenName, name_of
 from .column_types import ColumnTypes
+from .csv_text import Csv
 from .errors import Busy, Damaged, Refused
 from .partial_answers import Partial
 from .streams import ArrowStream
-from .table import Csv, Path, Table
+from .table import Path, Table
 from .taken_parts import Parts, Skim
 from .waiting import Wait
 

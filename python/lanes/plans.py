@@ -17,7 +17,8 @@ from .answer import Answer
 from .batch_name import BatchName
 from .errors import NotApart, Refused
 from .partial_answers import Partial, judge, names_batch
-from .table import Schema, Table
+from .schema import Schema
+from .table import Table
 
 #: How much room an answer's text is given at first, and a partial answer beside those that it is made of.
 _ROOM = 65_536

@@ -4,20 +4,21 @@ from __future__ import annotations
 
 import ctypes
 import errno
-import functools
 import os
 import re
 import secrets
 import stat
 import zlib
-from typing import IO, TYPE_CHECKING, Any, Iterable, Iterator, Mapping, NamedTuple, Optional, Type, TypeVar, Union, overload
+from typing import TYPE_CHECKING, Any, Iterable, Iterator, Mapping, Optional, Type, TypeVar, Union, overload
 
 from . import arguments, calls, explaining, replacing
 from .answer import Answer, Value
 from .batch_name import BatchName, GivenName, name_of
-from .column_types import TYPES, ColumnTypes, holding, type_of
+from .column_types import ColumnTypes, holding, type_of
+from .csv_text import Csv, text_of
 from .errors import Refused
 from .partial_answers import Partial
+from .schema import Schema
 from .streams import ArrowStream
 
 if TYPE_CHECKING:
@@ -57,44 +58,8 @@ _Bytes = Union[bytes, bytearray, memoryview]
 #: What is taken for a path.
 Path = Union[str, "os.PathLike[str]"]
 
-#: What is taken for comma-separated values: the text itself, a file that is open for reading, or a path object.
-Csv = Union[str, _Bytes, IO[str], IO[bytes], "os.PathLike[str]"]
-
-#: How the path of a file of comma-separated values ends.
-_ENDINGS = (".csv", ".tsv", ".txt", ".gz")
-
 #: A table's own class.
 _Self = TypeVar("_Self", bound="Table")
-
-
-class Schema(NamedTuple):
-    """A table's name and columns, and the front of its files, which has them."""
-
-    name: str
-    columns: dict[str, str]
-    front: bytes
-
-    @classmethod
-    def of(cls, file: bytes) -> Schema:
-        """The schema of a file, an offer or a summary that begins with these bytes; docs/FORMATS.md has them."""
-        count, name, at = int.from_bytes(file[6:8], "little"), *_word(file, 8)
-        columns = {}
-        for _ in range(count):
-            kind = TYPES[file[at].bit_length() - 1]
-            column, at = _word(file, at + 1)
-            columns[column] = kind
-        return cls(name, columns, file[:at])
-
-    @property
-    def words(self) -> bytes:
-        """The words of the table: its name, and column by column the column's name and its type."""
-        return " ".join([self.name, *(word for pair in self.columns.items() for word in pair)]).encode()
-
-
-def _word(file: bytes, at: int) -> tuple[str, int]:
-    """The name at a place of a file, and the place after it."""
-    end = at + 1 + file[at]
-    return file[at + 1 : end].decode(), end
 
 
 class Table:
@@ -428,7 +393,7 @@ class Table:
         from .dialects import Dialect
         from .pieces import with_text
 
-        dialect, text = Dialect.of(self, heading, separator, null, columns, whole_lines), _text_of(csv)
+        dialect, text = Dialect.of(self, heading, separator, null, columns, whole_lines), text_of(csv)
         return with_text(self, text, dialect, name_of(batch) if batch is not None else None, progress)
 
     def _with_rows_of(self: _Self, text: bytes, dialect: Dialect, batch: Optional[BatchName]) -> _Self:
@@ -807,32 +772,3 @@ def _ordinal(name: str, given: object) -> int:
 def _whole(value: Value) -> int:
     assert isinstance(value, int)
     return value
-
-
-def _text_of(csv: object) -> bytes:
-    """The bytes of comma-separated values that were given, or that a file has.
-
-    Raises:
-        ValueError: it is a text that seems to be a path.
-    """
-    if isinstance(csv, os.PathLike):
-        with open(csv, "rb") as file:
-            return file.read()
-    read = getattr(csv, "read", None)
-    found = read() if callable(read) else csv
-    if found is csv and isinstance(csv, (str, bytes)):
-        _judge_text(csv)
-    if isinstance(found, str):
-        return arguments.text_of("csv", found)
-    if isinstance(found, (bytes, bytearray, memoryview)):
-        return bytes(found)
-    raise arguments.wrong("csv", "a text of comma-separated values, or a file of one,", csv)
-
-
-def _judge_text(csv: Union[str, bytes]) -> None:
-    """Refuses a text without a line's end that seems to be a path."""
-    if "\n" in csv if isinstance(csv, str) else b"\n" in csv:
-        return
-    path = csv if isinstance(csv, str) else os.fsdecode(csv)
-    if path.lower().endswith(_ENDINGS) or os.path.isfile(path):
-        raise ValueError(f"csv: {path!r} is taken as the text of comma-separated values itself; to import a file, give a path object: pathlib.Path({path!r})")
