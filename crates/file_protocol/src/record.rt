@@ -55,7 +55,7 @@ impl FileRecord {
         ensures { self.new.noted ≡ (_numbers.now, _first.now, _second.now) ∷ self.old.noted }
     {}
 
-    /// The file of a name was opened, and was made by that or was not; or none was opened.
+    /// Notes an open of the file of a name: `Some(true)` if it made the file, `Some(false)` if the file was there, and `None` if it failed.
     pub fn opened(&mut self, name: &str, made: Option<bool>)
         ensures { events_of self.new.noted ≡ Opened name.now made ∷ events_of self.old.noted }
     {

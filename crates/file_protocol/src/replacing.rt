@@ -37,7 +37,7 @@ pub fn replace<F: FileFolder>(
     exchange(folder, place.lock(), place.name(), bytes)
 }
 
-/// The same, by how far it comes.
+/// Fills the lock's file with the bytes and puts it in the place of the file `name`. The contract says at each end how far it came.
 fn exchange<F: FileFolder>(
     folder: &mut F,
     lock: &str,

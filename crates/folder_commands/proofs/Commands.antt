@@ -6,6 +6,7 @@ use Rattle.folder_model.specs.Call.{Call}
 use Rattle.folder_model.specs.Turn.{Gave, listing_of}
 use Rattle.folder_protocol.specs.Causes.{Lacks, HasCall, LookCause}
 use Rattle.folder_protocol.specs.Goes.{GoesInTurn, AreRemoved}
+use Rattle.folder_protocol.specs.Linking.{LinksNone}
 use Rattle.folder_protocol.specs.declared.putting.Outcome.{Outcome}
 use Rattle.folder_protocol.specs.declared.putting.Outcome.TheVariants.{OnDisk, Unsynced, Gone, Damaged}
 use Rattle.folder_protocol.proofs.Causing.{Follows}
@@ -40,13 +41,13 @@ pack_covers passed names held whole bytes calls is read file =
     subst (λ (b : List ℕ). AreCoveredBy passed names b calls) (sym file.0) (pack_covered passed names whole calls (are_read passed names held whole calls is read) file.1)
 
 pub packs : (names : List (List ℕ)) (held : Option Replica) (whole : Replica) (bytes name : List ℕ) (gone : List (List ℕ)) (outcome : Option Outcome) (before mid after : List Call)
-    → held ≡ Some whole → IsReadAs [] names held mid → IsFileOf bytes whole → GoesInTurn folder_parts before mid → Replaces [] names bytes name gone outcome mid after
+    → held ≡ Some whole → IsReadAs [] names held mid → IsFileOf bytes whole → GoesInTurn folder_parts before mid → LinksNone before mid → Replaces [] names bytes name gone outcome mid after
     → Packs names name gone outcome before after
-packs names held whole bytes name gone outcome before mid after is read file first done = record {
+packs names held whole bytes name gone outcome before mid after is read file first unlinked done = record {
   whole = whole;
   parts = read_later [] names whole mid after (follows [] names bytes name gone outcome mid after done) (are_read [] names held whole mid is read);
   read = file.1;
-  replaces = subst (λ (b : List ℕ). Replaces [] names b name gone outcome before after) file.0 (replaced_after [] names bytes name gone outcome before mid after first done);
+  replaces = subst (λ (b : List ℕ). Replaces [] names b name gone outcome before after) file.0 (replaced_after [] names bytes name gone outcome before mid after first unlinked done);
 }
 
 -- ---- a forget
@@ -67,14 +68,14 @@ forgets_none passed names held whole left dropped before calls is read forgot no
 -- some are
 pub forgets_some : (passed names : List (List ℕ)) (held : Option Replica) (whole left : Replica) (dropped : ℕ × ℕ) (bytes name : List ℕ) (gone : List (List ℕ)) (outcome : Option Outcome) (before mid after : List Call)
     → held ≡ Some whole → IsReadAs passed names held mid → forgetting whole ≡ Ok (dropped, left) → IsFileOf bytes left → GoesInTurn folder_parts before mid
-    → Replaces passed names bytes name gone outcome mid after → LeavesForgotten passed names dropped name gone outcome before after
-forgets_some passed names held whole left dropped bytes name gone outcome before mid after is read forgot file first done = record {
+    → LinksNone before mid → Replaces passed names bytes name gone outcome mid after → LeavesForgotten passed names dropped name gone outcome before after
+forgets_some passed names held whole left dropped bytes name gone outcome before mid after is read forgot file first unlinked done = record {
   whole = whole;
   left = left;
   parts = read_later passed names whole mid after (follows passed names bytes name gone outcome mid after done) (are_read passed names held whole mid is read);
   forgot = forgot;
   read = file.1;
-  replaces = subst (λ (b : List ℕ). Replaces passed names b name gone outcome before after) file.0 (replaced_after passed names bytes name gone outcome before mid after first done);
+  replaces = subst (λ (b : List ℕ). Replaces passed names b name gone outcome before after) file.0 (replaced_after passed names bytes name gone outcome before mid after first unlinked done);
 }
 
 -- ---- what was listed

@@ -11,8 +11,10 @@ use Rattle.folder_model.specs.Turn.{HasRead}
 use Rattle.folder_protocol.specs.Goes.{GoesInTurn, AreJoined}
 use Rattle.folder_protocol.specs.declared.putting.Outcome.{Outcome}
 use Rattle.folder_protocol.specs.Causes.{Lacks, LookCause}
-use Rattle.folder_protocol.proofs.Causing.{Follows, has_later, look_later}
+use Rattle.folder_protocol.specs.Linking.{LinksNone, Watches, HasEach, LacksOne}
+use Rattle.folder_protocol.proofs.Causing.{Follows, follows_none, has_later, look_later}
 use Rattle.folder_protocol.proofs.Lines.{removed_between}
+use Rattle.folder_protocol.proofs.Linking.{links_more, links_never, was_between}
 use Rattle.replica_store.specs.Replica.{Replica}
 use Rattle.replica_reports.specs.Held.{held_in}
 use Rattle.replica_changes.specs.Commands.{file_of, as_held}
@@ -57,7 +59,8 @@ are_joined passed names bytes name gone calls named is covered other among =
 
 -- ---- what covers
 
-one_of : (file : List ℕ) (files : List (List ℕ)) → Among file files → IsOneOf file files
+-- a file among some is one of them
+pub one_of : (file : List ℕ) (files : List (List ℕ)) → Among file files → IsOneOf file files
 one_of file [] among = absurd among
 one_of file (other ∷ files) (inl is) = inl is
 one_of file (other ∷ files) (inr among) = inr (one_of file files among)
@@ -97,14 +100,20 @@ looked_after : (outcome : Option Outcome) (name bytes : List ℕ) (before mid af
 looked_after None name bytes before mid after first cause = tt
 looked_after (Some how) name bytes before mid after first cause = look_later how name bytes before mid after first cause
 
--- what was replaced was so after the calls before
+-- what was replaced was so after the calls before, which gave no name
 pub replaced_after : (passed names : List (List ℕ)) (bytes name : List ℕ) (gone : List (List ℕ)) (outcome : Option Outcome) (before mid after : List Call) → GoesInTurn folder_parts before mid
-    → Replaces passed names bytes name gone outcome mid after → Replaces passed names bytes name gone outcome before after
-replaced_after passed names bytes name gone outcome before mid after first done = record {
+    → LinksNone before mid → Replaces passed names bytes name gone outcome mid after → Replaces passed names bytes name gone outcome before after
+replaced_after passed names bytes name gone outcome before mid after first unlinked done = record {
   named = done.named;
   going = done.going;
   removed = λ on. removed_between gone before mid after after first.0 [] first.1 (done.removed on) refl;
   stored = done.stored;
   cause = looked_after outcome name bytes before mid after (first.0, first.1) done.cause;
   overtaken = λ none. has_later (Lacks gone) before mid after (first.0, first.1) (done.overtaken none);
+  links = links_more (Watches (HasEach gone)) before mid after (links_never (Watches (HasEach gone)) before mid unlinked) done.links;
+  lacked = λ none.
+      let both = done.lacked none in (
+        was_between (Watches (LacksOne gone)) before mid after after (first.0, first.1) (follows_none after) both.0,
+        links_more (λ (l : List Call). ⊥) before mid after unlinked both.1,
+      );
 }

@@ -5,6 +5,7 @@ use Rattle.folder_model.specs.Disk.{Among}
 use Rattle.folder_model.specs.Turn.{HasRead, IsStored}
 use Rattle.folder_protocol.specs.Causes.{Lacks, HasCall, LookCause}
 use Rattle.folder_protocol.specs.Goes.{AreRemoved}
+use Rattle.folder_protocol.specs.Linking.{LinksOnly, LinksNone, WasSo, Watches, HasEach, LacksOne}
 use Rattle.folder_protocol.specs.declared.putting.Outcome.{Outcome}
 use Rattle.folder_protocol.specs.declared.putting.Outcome.TheVariants.{OnDisk}
 use Rattle.replica_store.specs.Replica.{Replica}
@@ -23,8 +24,9 @@ AreCoveredBy passed names bytes calls =
     (name : List ℕ) → Among name names → is_wanted passed name ≡ true → (part : List ℕ) × (name ≡ part_name part) × HasRead folder_parts part calls × (covers bytes part ≡ true)
 
 -- A part with these bytes was put in the place of those of these names: it has the name of its bytes; those that are wanted go, but for
--- itself; and once it was on the disk, where it is stored, they were removed. If it is not on the disk, that has its cause; and if none was
--- put, one of them was not listed.
+-- itself; and once it was on the disk, where it is stored, they were removed. If it is not on the disk, that has its cause. A file is given
+-- its name only under the exclusive lock, held since before a listing that gave each of those that go; and if none was put, such a listing
+-- lacked one of them, and no file was given a name.
 pub record Replaces (passed names : List (List ℕ)) (bytes name : List ℕ) (gone : List (List ℕ)) (outcome : Option Outcome) (before after : List Call) : Type 0 where
   pub named : name ≡ part_name bytes
   pub going : gone ≡ filter (goes passed name) names
@@ -32,6 +34,8 @@ pub record Replaces (passed names : List (List ℕ)) (bytes name : List ℕ) (go
   pub stored : outcome ≡ Some OnDisk → IsStored folder_parts bytes after
   pub cause : IfSome outcome (λ how. LookCause how name bytes before after)
   pub overtaken : outcome ≡ None → HasCall (Lacks gone) before after
+  pub links : LinksOnly (Watches (HasEach gone)) before after
+  pub lacked : outcome ≡ None → WasSo (Watches (LacksOne gone)) before after × LinksNone before after
 
 -- A pack of the parts of these names: they were read, and the file of their join, which is read as it, was put in their place.
 pub record Packs (names : List (List ℕ)) (name : List ℕ) (gone : List (List ℕ)) (outcome : Option Outcome) (before after : List Call) : Type 0 where

@@ -3,6 +3,7 @@ ghost use Rattle.std.specs.Prelude.{◌≡◌, ℕ, List, [], map, string_bytes,
 ghost use Rattle.folder_model.specs.Turn.{listing_of};
 ghost use Rattle.folder_protocol.specs.Goes.{GoesInTurn};
 ghost use Rattle.folder_protocol.specs.Linking.{GoesPlainly};
+ghost use Rattle.folder_protocol.specs.Sweeping.{RemovesOnly};
 ghost use Rattle.folder_protocol.specs.Taking.{UntakenCause};
 ghost use Rattle.folder_parts.specs.Covers.{folder_parts};
 ghost use Rattle.folder_parts.specs.Parts.{PartForm};
@@ -53,6 +54,7 @@ fn gather_one<F: Folder, G: Gathers>(
     ensures refused { IfPartsRefused result (λ refusal. (refusal.part ≡ place) × ReadsOne name.now (More (G.made_of way.now made) (G.stops way.now refusal.fault)) (F.history folder.old) (F.history folder.new)) }
     ensures cause { IfErr result (λ fault. UntakenCause fault (F.history folder.old) (F.history folder.new)) }
     ensures plain { GoesPlainly (F.history folder.old) (F.history folder.new) }
+    ensures unremoved { RemovesOnly (λ name. ⊥) (F.history folder.old) (F.history folder.new) }
 {
     match folder.read(alloc, name) {
         Ok(Some(bytes)) => match made.with(alloc, way, name, bytes.as_slice()) {
@@ -81,6 +83,7 @@ pub(crate) fn gather_each<F: Folder, G: Gathers>(
     ensures refused { G.made_of way.now start [] → IfPartsRefused result (λ refusal. StopsAtFault (G.stops way.now) refusal (wanted_of (map string_bytes passed.now) (map string_bytes listed.now)) (F.history folder.old) (F.history folder.new)) }
     ensures cause { IfErr result (λ fault. UntakenCause fault (F.history folder.old) (F.history folder.new)) }
     ensures plain { GoesPlainly (F.history folder.old) (F.history folder.new) }
+    ensures unremoved { RemovesOnly (λ name. ⊥) (F.history folder.old) (F.history folder.new) }
 {
     let mut made = start;
     let mut count = 0;

@@ -4,7 +4,8 @@ ghost use Rattle.column_file.specs.Files.{AreCanonicalOf};
 ghost use Rattle.folder_model.specs.Call.{lock_of};
 ghost use Rattle.folder_model.specs.Turn.{Gave, listing_of, HasReadAll};
 ghost use Rattle.folder_protocol.specs.Goes.{GoesInTurn};
-ghost use Rattle.folder_protocol.specs.Linking.{GoesPlainly};
+ghost use Rattle.folder_protocol.specs.Linking.{GoesPlainly, LinksNone};
+ghost use Rattle.folder_protocol.specs.Sweeping.{RemovesOnly};
 ghost use Rattle.folder_protocol.specs.Taking.{UntakenCause};
 ghost use Rattle.folder_parts.specs.Covers.{folder_parts};
 ghost use Rattle.folder_commands.specs.Joined.{IsReadAs};
@@ -55,6 +56,7 @@ fn join_named<F: Folder>(
     ensures refused { IfPartsRefused result (λ refusal. IsReadRefused refusal (map string_bytes passed.now) (map string_bytes names.now) (F.history folder.old) (F.history folder.new)) }
     ensures cause { IfErr result (λ fault. UntakenCause fault (F.history folder.old) (F.history folder.new)) }
     ensures plain { GoesPlainly (F.history folder.old) (F.history folder.new) }
+    ensures unremoved { RemovesOnly (λ name. ⊥) (F.history folder.old) (F.history folder.new) }
 {
     let start = Joining::new(alloc);
     let Joining { join, relied } = match gather_each(
@@ -94,8 +96,9 @@ pub fn read_named<F: Folder>(
     ensures refused { IfPartsRefused result (λ refusal. IsReadRefused refusal (map string_bytes passed.now) (map string_bytes names.now) (F.history folder.old) (F.history folder.new)) }
     // That they were not all read has its cause.
     ensures cause { IfErr result (λ fault. UntakenCause fault (F.history folder.old) (F.history folder.new)) }
-    // It gives no name, changes no lock, and lists nothing.
+    // It gives no name, changes no lock, and lists nothing; and it removes no name.
     ensures plain { GoesPlainly (F.history folder.old) (F.history folder.new) }
+    ensures unremoved { RemovesOnly (λ name. ⊥) (F.history folder.old) (F.history folder.new) }
 {
     match join_named(alloc, folder, passed, names, &Reliance::Nothing) {
         Ok(Some(joined)) => Ok(Some(joined.store)),
@@ -139,7 +142,9 @@ pub fn read_folder<F: Folder>(
     ensures refused { IfPartsRefused result (λ refusal. IsFolderRefused refusal (map string_bytes passed.now) (F.history folder.old) (F.history folder.new)) }
     // That they were not all read has its cause.
     ensures cause { IfErr result (λ fault. UntakenCause fault (F.history folder.old) (F.history folder.new)) }
-    // It leaves no lock, whatever the answer is.
+    // It gives no name and removes none, and it leaves no lock, whatever the answer is.
+    ensures unlinked { LinksNone (F.history folder.old) (F.history folder.new) }
+    ensures unremoved { RemovesOnly (λ name. ⊥) (F.history folder.old) (F.history folder.new) }
     ensures unlocked { lock_of (F.history folder.new) ≡ None }
 {
     let names = match list_names(alloc, folder) {

@@ -5,7 +5,7 @@ ghost use Rattle.folder_model.specs.Parts.{Parts};
 ghost use Rattle.folder_model.specs.Turn.{IsStored};
 ghost use Rattle.folder_protocol.specs.Causes.{Fails, HasCall, LookCause, IsNamed};
 ghost use Rattle.folder_protocol.specs.Goes.{GoesInTurn};
-ghost use Rattle.folder_protocol.specs.Keeping.{AreKept};
+ghost use Rattle.folder_protocol.specs.Keeping.{AreKept, AreReliedOn};
 ghost use Rattle.folder_protocol.specs.Premises.{MayPut};
 ghost use Rattle.folder_protocol.specs.Linking.{LinksOnly, LinksNone, WasSo, Watches, Each, One};
 ghost use Rattle.folder_parts.specs.Covers.{folder_parts};
@@ -29,6 +29,10 @@ pub fn keep_and_put<F: Folder>(
     ensures in_turn { (parts : Parts) → MayPut parts temporary.now name.now bytes.now → GoesInTurn parts (F.history folder.old) (F.history folder.new) }
     // Each part that it relies on is kept, or gone.
     ensures kept { (parts : Parts) → MayPut parts temporary.now name.now bytes.now → OnOk result (AreKept parts (map string_bytes relied.now) (F.history folder.old) (F.history folder.new)) }
+    // Each part of them that was read before is kept, or is gone and covered by another: either way it is safe.
+    ensures safe { (parts : Parts) → MayPut parts temporary.now name.now bytes.now → OnOk result (AreReliedOn parts (map string_bytes relied.now) (F.history folder.old) (F.history folder.new)) }
+    // No call was to give a file a name before each of them was kept, or gone, whatever the answer is: so nothing is put if one can't be kept.
+    ensures first { (parts : Parts) → MayPut parts temporary.now name.now bytes.now → LinksOnly (AreKept parts (map string_bytes relied.now) (F.history folder.old)) (F.history folder.old) (F.history folder.new) }
     // Once the new part is on the disk it is stored.
     ensures stored { (parts : Parts) → name.now ≡ parts.name_of bytes.now → IfOk result (λ how. how ≡ Outcome.OnDisk → IsStored parts bytes.now (F.history folder.new)) }
     // So each batch and each deletion that it has, or that one of the others has, is in a part that is on the disk, or in one that was gone.
@@ -60,6 +64,10 @@ pub fn keep_and_put_judged<F: Folder, T: Taker>(
     ensures in_turn { (parts : Parts) → MayPut parts temporary.now name.now bytes.now → GoesInTurn parts (F.history folder.old) (F.history folder.new) }
     // Each part that it relies on is kept, or gone.
     ensures kept { (parts : Parts) → MayPut parts temporary.now name.now bytes.now → OnOk result (AreKept parts (map string_bytes relied.now) (F.history folder.old) (F.history folder.new)) }
+    // Each part of them that was read before is kept, or is gone and covered by another: either way it is safe.
+    ensures safe { (parts : Parts) → MayPut parts temporary.now name.now bytes.now → OnOk result (AreReliedOn parts (map string_bytes relied.now) (F.history folder.old) (F.history folder.new)) }
+    // No call was to give a file a name before each of them was kept, or gone, whatever the answer is: so nothing is put if one can't be kept.
+    ensures first { (parts : Parts) → MayPut parts temporary.now name.now bytes.now → LinksOnly (AreKept parts (map string_bytes relied.now) (F.history folder.old)) (F.history folder.old) (F.history folder.new) }
     // Once the new part is on the disk it is stored.
     ensures stored { (parts : Parts) → MayPut parts temporary.now name.now bytes.now → IfOk result (λ answer. answer ≡ Some Outcome.OnDisk → IsStored parts bytes.now (F.history folder.new)) }
     // So each batch and each deletion that it has, or that one of the others has, is in a part that is on the disk, or in one that was gone.

@@ -2,6 +2,7 @@
 ghost use Rattle.std.specs.Prelude.{◌≡◌, List, ℕ, Err, Some, None, map, string_bytes, IfOk, IfErr, IfSome};
 ghost use Rattle.folder_model.specs.Turn.{listing_of};
 ghost use Rattle.folder_protocol.specs.Goes.{GoesInTurn};
+ghost use Rattle.folder_protocol.specs.Sweeping.{RemovesOnly};
 ghost use Rattle.folder_protocol.specs.Taking.{UntakenCause};
 ghost use Rattle.folder_parts.specs.Covers.{folder_parts};
 ghost use Rattle.folder_parts.specs.PartReads.{IsListed, is_refusal_of_part};
@@ -97,6 +98,7 @@ fn skim_named<F: Folder>(
     ensures refused { AreGiven (map string_bytes listed.now) (F.history folder.old) → IfPartsRefused result (λ refusal. IsSkimRefused refusal (map string_bytes passed.now) names.first names.count (F.history folder.old) (F.history folder.new)) }
     ensures none { IfOk result (λ answer. answer ≡ None → AreUnwanted (map string_bytes passed.now) (map string_bytes listed.now)) }
     ensures cause { IfErr result (λ fault. UntakenCause fault (F.history folder.old) (F.history folder.new)) }
+    ensures unremoved { RemovesOnly (λ name. ⊥) (F.history folder.old) (F.history folder.new) }
 {
     let start = Skimming {
         skim: None,
@@ -144,6 +146,8 @@ pub fn skim_folder<F: Folder>(
     ensures none { IfOk result (λ answer. answer ≡ None → (given : List (List ℕ)) × WereGiven given (F.history folder.old) (F.history folder.new) × AreUnwanted (map string_bytes passed.now) given) }
     // An error has its cause: a part that was gone, a call that failed, or a part that is refused.
     ensures cause { IfErr result (λ fault. UntakenCause fault (F.history folder.old) (F.history folder.new)) }
+    // It removes no name, whatever the answer is.
+    ensures unremoved { RemovesOnly (λ name. ⊥) (F.history folder.old) (F.history folder.new) }
 {
     let listed = match list_names(alloc, folder) {
         Ok(listed) => listed,

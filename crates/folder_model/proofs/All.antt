@@ -3,8 +3,8 @@ use Rattle.folder_model.specs.Parts.{IsThere}
 use Rattle.folder_model.specs.Run.{AtSome}
 use Rattle.folder_model.specs.Laws.{FolderHistoryLaws}
 use Rattle.folder_model.proofs.Runs.{settled, held, killed, turns_run, held_run, safe_for_ever, put_is_safe, put_is_read, placed_is_held, reads_all, readers_have}
-use Rattle.folder_model.proofs.Alone.{put_is_listed, put_is_found, watched_is_listed, placed_apart}
-use Rattle.folder_model.proofs.Gone.{gone_is_safe}
+use Rattle.folder_model.proofs.Alone.{put_is_listed, put_is_found, watched_is_listed, placed_apart, safe_is_found}
+use Rattle.folder_model.proofs.Gone.{gone_is_safe, gone_is_found}
 
 pub folder_model_laws : FolderHistoryLaws
 folder_model_laws = record {
@@ -24,4 +24,6 @@ folder_model_laws = record {
   watched = λ parts events d e run fair process names watched bytes at. watched_is_listed parts events d e run fair process names watched bytes at;
   apart = λ parts events d e run fair p q ne a b seen have first second. placed_apart parts events d e run fair p q ne a b seen have first second;
   gone = λ parts events d e run fair process bytes at. gone_is_safe parts events d e run fair process bytes at;
+  safe_found = λ parts events d e run fair process names listed bytes at. safe_is_found parts events d e run fair process names listed bytes at;
+  gone_found = λ parts events d e run fair process names listed bytes at. gone_is_found parts events d e run fair process names listed bytes at;
 }

@@ -2,7 +2,7 @@
 use Rattle.std.proofs.Common.{◌≡◌, ◌≢◌, ◌⊎◌, inl, inr, ⊎_elim, ℕ, List, [], ◌∷◌, Some, refl, sym, ◌∙◌, ap, subst}
 use Rattle.folder_model.specs.Call.{Call, Made, Wrote, Synced, Linked, Removed, Settled, Locked, Unlocked, Began, Listed, Read, Looked, Exclusive, Done, Taken, Failed, lock_of}
 use Rattle.folder_model.specs.Disk.{Disk}
-use Rattle.folder_model.specs.Parts.{Parts, IsOrder, IsThere, IsHeld}
+use Rattle.folder_model.specs.Parts.{Parts, IsOrder, IsThere, IsHeld, IsSafe}
 use Rattle.folder_model.specs.Turn.{Stage, Ready, Placed, stage_of, linked, Listing, Unlisted, Gave, listing_of, IsAlone, HasWatched, HasPlaced}
 use Rattle.folder_model.specs.World.{World}
 use Rattle.folder_model.specs.Run.{Event, By, Comes, Leaves, Ends, PowerLost, Run, AtSome, SinceLoss, BeforeListing, HasPut, IsQuiet}
@@ -208,6 +208,13 @@ module _ (parts : Parts) (order : IsOrder parts) (Known : List ℕ → Type 0) (
       let x = m part (file, at, holds) in
       (part, x.1, covers, λ read has named. distinct read part (sound.read q read has) x.0 named)
 
+  safe_found : (events : List Event) (d e : World) (run : Run parts events d e) → IsQuiet d
+      → ((b : List ℕ) → AtSome (λ w. IsThere parts w.disk b) parts events d e run → Known b)
+      → (q : ℕ) (names : List (List ℕ)) → listing_of (e.calls q) ≡ Gave names → (b : List ℕ) → BeforeListing (λ w. IsSafe parts w.disk b) q parts events d e run → FindsAmong parts names (e.calls q) b
+  safe_found events d e run quiet known q names listed b at =
+      found_began e (sound_run parts order Known distinct events d e run quiet known) q names listed b
+      (began_held parts order Known distinct events d e run quiet known q (not_unlisted (e.calls q) names listed) b at)
+
   put_found : (events : List Event) (d e : World) (run : Run parts events d e) → IsQuiet d
       → ((b : List ℕ) → AtSome (λ w. IsThere parts w.disk b) parts events d e run → Known b)
       → (q : ℕ) (names : List (List ℕ)) → listing_of (e.calls q) ≡ Gave names → (b : List ℕ) → BeforeListing (HasPut parts b) q parts events d e run → FindsAmong parts names (e.calls q) b
@@ -224,6 +231,9 @@ module _ (parts : Parts) (events : List Event) (d e : World) (run : Run parts ev
 
   pub put_is_found : (q : ℕ) (names : List (List ℕ)) → listing_of (e.calls q) ≡ Gave names → (b : List ℕ) → BeforeListing (HasPut parts b) q parts events d e run → FindsAmong parts names (e.calls q) b
   put_is_found q names listed b at = put_found parts fair.order Known fair.distinct events d e run fair.quiet (λ x t. t) q names listed b at
+
+  pub safe_is_found : (q : ℕ) (names : List (List ℕ)) → listing_of (e.calls q) ≡ Gave names → (b : List ℕ) → BeforeListing (λ w. IsSafe parts w.disk b) q parts events d e run → FindsAmong parts names (e.calls q) b
+  safe_is_found q names listed b at = safe_found parts fair.order Known fair.distinct events d e run fair.quiet (λ x t. t) q names listed b at
 
   pub watched_is_listed : (q : ℕ) (names : List (List ℕ)) → HasWatched names (e.calls q) → (b : List ℕ)
       → SinceLoss (λ w. (lock_of (w.calls q) ≢ Some Exclusive) × IsHeld parts w.disk b) parts events d e run → Lists parts names b

@@ -1,16 +1,17 @@
 -- What was read, and is gone later, is held by another part.
 use Rattle.std.proofs.Common.{◌≡◌, ◌⊎◌, inl, inr, ⊎_elim, ℕ, true, List, [], ◌∷◌, Some, None, sym, ◌∙◌, ap, subst}
-use Rattle.folder_model.specs.Call.{Call, Settled, Read}
+use Rattle.folder_model.specs.Call.{Call, Settled, Read, Began}
 use Rattle.folder_model.specs.Disk.{Disk}
 use Rattle.folder_model.specs.Parts.{Parts, IsOrder, IsThere, IsHeld, IsSafe}
-use Rattle.folder_model.specs.Turn.{HasRead, HasMissed, IsGone}
+use Rattle.folder_model.specs.Turn.{HasRead, HasMissed, IsGone, Gave, listing_of}
 use Rattle.folder_model.specs.World.{World}
-use Rattle.folder_model.specs.Run.{Event, By, Comes, Leaves, Ends, PowerLost, Calls, Happens, Run, AtSome, IsQuiet}
-use Rattle.folder_model.specs.Laws.{IsFair}
+use Rattle.folder_model.specs.Run.{Event, By, Comes, Leaves, Ends, PowerLost, Calls, Happens, Run, AtSome, BeforeListing, IsQuiet}
+use Rattle.folder_model.specs.Laws.{IsFair, FindsAmong}
 use Rattle.folder_model.proofs.Basics.{some_none, some_same, numbers_same}
 use Rattle.folder_model.proofs.Means.{Sound}
 use Rattle.folder_model.proofs.Effects.{settles_now}
 use Rattle.folder_model.proofs.Steps.{NotLoss, step, step_bears, step_held}
+use Rattle.folder_model.proofs.Alone.{safe_is_found}
 use Rattle.folder_model.proofs.Runs.{settled, sound_run, safe_for_ever}
 
 module _ (parts : Parts) (order : IsOrder parts) (Known : List ℕ → Type 0) (distinct : (a b : List ℕ) → Known a → Known b → parts.name_of a ≡ parts.name_of b → a ≡ b) where
@@ -129,7 +130,31 @@ module _ (parts : Parts) (order : IsOrder parts) (Known : List ℕ → Type 0) (
   gone_at (event ∷ earlier) d e run quiet known p b (inl gone) = inl (gone_run (event ∷ earlier) d e run quiet known p b gone)
   gone_at (event ∷ earlier) d e (v, run, happens) quiet known p b (inr at) = inr (gone_at earlier d v run quiet (λ x t. known x (inr t)) p b at)
 
+  -- the same of any process
+  gone_some : (events : List Event) (d e : World) (run : Run parts events d e) → IsQuiet d
+      → ((b : List ℕ) → AtSome (λ w. IsThere parts w.disk b) parts events d e run → Known b)
+      → (b : List ℕ) → AtSome (λ w. (q : ℕ) × IsGone parts b (w.calls q)) parts events d e run → AtSome (λ w. IsSafe parts w.disk b) parts events d e run
+  gone_some [] d e run quiet known b (q, gone) = gone_run [] d e run quiet known q b gone
+  gone_some (event ∷ earlier) d e run quiet known b (inl (q, gone)) = inl (gone_run (event ∷ earlier) d e run quiet known q b gone)
+  gone_some (event ∷ earlier) d e (v, run, happens) quiet known b (inr at) = inr (gone_some earlier d v run quiet (λ x t. known x (inr t)) b at)
+
+  -- before a listing
+  gone_listing : (p : ℕ) (events : List Event) (d e : World) (run : Run parts events d e) → IsQuiet d
+      → ((b : List ℕ) → AtSome (λ w. IsThere parts w.disk b) parts events d e run → Known b)
+      → (b : List ℕ) → BeforeListing (λ w. (q : ℕ) × IsGone parts b (w.calls q)) p parts events d e run → BeforeListing (λ w. IsSafe parts w.disk b) p parts events d e run
+  gone_listing p [] d e run quiet known b at = absurd at
+  gone_listing p (By q Began ∷ earlier) d e (v, run, happens) quiet known b (inl (is, at)) = inl (is, gone_some earlier d v run quiet (λ x t. known x (inr t)) b at)
+  gone_listing p (By q Began ∷ earlier) d e (v, run, happens) quiet known b (inr (other, at)) = inr (other, gone_listing p earlier d v run quiet (λ x t. known x (inr t)) b at)
+  gone_listing p (event ∷ earlier) d e (v, run, happens) quiet known b at = gone_listing p earlier d v run quiet (λ x t. known x (inr t)) b at
+
 pub gone_is_safe : (parts : Parts) (events : List Event) (d e : World) (run : Run parts events d e) → IsFair parts events d e run
     → (p : ℕ) (b : List ℕ) → AtSome (λ w. IsGone parts b (w.calls p)) parts events d e run → IsSafe parts e.disk b
 gone_is_safe parts events d e run fair p b at =
     safe_for_ever parts events d e run fair b (gone_at parts fair.order (λ b. AtSome (λ w. IsThere parts w.disk b) parts events d e run) fair.distinct events d e run fair.quiet (λ x t. t) p b at)
+
+pub gone_is_found : (parts : Parts) (events : List Event) (d e : World) (run : Run parts events d e) → IsFair parts events d e run
+    → (p : ℕ) (names : List (List ℕ)) → listing_of (e.calls p) ≡ Gave names
+    → (b : List ℕ) → BeforeListing (λ w. (q : ℕ) × IsGone parts b (w.calls q)) p parts events d e run → FindsAmong parts names (e.calls p) b
+gone_is_found parts events d e run fair p names listed b at =
+    safe_is_found parts events d e run fair p names listed b
+    (gone_listing parts fair.order (λ b. AtSome (λ w. IsThere parts w.disk b) parts events d e run) fair.distinct p events d e run fair.quiet (λ x t. t) b at)

@@ -92,6 +92,20 @@ PutIsFound =
     (process : ℕ) (names : List (List ℕ)) → listing_of (e.calls process) ≡ Gave names →
     (bytes : List ℕ) → BeforeListing (HasPut parts bytes) process parts events d e run → FindsAmong parts names (e.calls process) bytes
 
+-- So it is of what was safe at any moment before that listing, for whatever reason.
+abbrev pub SafeIsFound : Type 0
+SafeIsFound =
+    (parts : Parts) (events : List Event) (d e : World) (run : Run parts events d e) → IsFair parts events d e run →
+    (process : ℕ) (names : List (List ℕ)) → listing_of (e.calls process) ≡ Gave names →
+    (bytes : List ℕ) → BeforeListing (λ w. IsSafe parts w.disk bytes) process parts events d e run → FindsAmong parts names (e.calls process) bytes
+
+-- And of what any process has read, and then found gone or replaced, and synced the folder after that, all before that listing.
+abbrev pub GoneIsFound : Type 0
+GoneIsFound =
+    (parts : Parts) (events : List Event) (d e : World) (run : Run parts events d e) → IsFair parts events d e run →
+    (process : ℕ) (names : List (List ℕ)) → listing_of (e.calls process) ≡ Gave names →
+    (bytes : List ℕ) → BeforeListing (λ w. (other : ℕ) × IsGone parts bytes (w.calls other)) process parts events d e run → FindsAmong parts names (e.calls process) bytes
+
 -- Whoever has listed the folder under the exclusive lock, and has had it since, was given the name of a part that covers what was held at
 -- any moment since the last loss of power at which it did not have that lock.
 abbrev pub WatchedIsListed : Type 0
@@ -141,3 +155,5 @@ pub record FolderHistoryLaws : Type 0 where
   pub watched : WatchedIsListed
   pub apart : PlacedApart
   pub gone : GoneIsSafe
+  pub safe_found : SafeIsFound
+  pub gone_found : GoneIsFound

@@ -5,13 +5,14 @@ use Rattle.std.specs.Str.{bytes_eq}
 use Rattle.std.proofs.Common.{refl, sym, ap, subst, ◌∙◌, inl, inr, ◌≢◌, ◌⊎◌, ⊎_elim, true, false, ℕ, Bool, None, Some, Ok, Err, Result, List, [], ◌∷◌, ◌++◌}
 use Rattle.std.proofs.lemmas.Slice.Eq.{bytes_eq-Decides}
 use Rattle.std.proofs.lemmas.Bool.{cases_Bool}
-use Rattle.folder_model.specs.Call.{Call, Read, Synced, Settled}
+use Rattle.folder_model.specs.Call.{Call, Made, Wrote, Synced, Linked, Removed, Settled, Locked, Unlocked, Began, Listed, Read, Looked}
 use Rattle.folder_model.specs.Disk.{Among}
 use Rattle.folder_model.specs.Parts.{Parts}
 use Rattle.folder_model.specs.Turn.{Idle, Seen, Whole, synced, HasRead, WasSynced, IsKept, HasMissed, IsGone}
 use Rattle.folder_protocol.specs.Causes.{FindsNone, Fails, HasCall}
 use Rattle.folder_protocol.proofs.Causing.{Follows, follows_none, follows_on, has_now, has_later, has_before}
-use Rattle.folder_protocol.specs.Keeping.{AreKept, Finds, IsSyncedOrGone, IsKeptOrGone, IsSyncedOrMissed}
+use Rattle.folder_protocol.specs.Keeping.{AreKept, AreReliedOn, Finds, IsSyncedOrGone, IsKeptOrGone, IsSyncedOrMissed}
+use Rattle.folder_protocol.specs.Linking.{LinksAfter, EachLinksAfter, LinksOnly}
 use Rattle.folder_protocol.proofs.Lines.{has_read_later}
 
 -- a part that was read and synced
@@ -135,3 +136,44 @@ kept_later parts names before mid after later are name among = by (are name amon
 pub on_ok : {T E P : Type 0} (r : Result T E) → P → OnOk r P
 on_ok (Ok x) p = p
 on_ok (Err e) p = tt
+
+-- a part that is gone, too
+gone_on : (parts : Parts) (bytes : List ℕ) (calls h : List Call) → IsGone parts bytes h → IsGone parts bytes (calls ++ h)
+gone_on parts bytes [] h gone = gone
+gone_on parts bytes (Settled true ∷ calls) h gone = inr (gone_on parts bytes calls h gone)
+gone_on parts bytes (call ∷ calls) h gone = gone_on parts bytes calls h gone
+
+-- and so do all on which something relies
+pub relied_later : (parts : Parts) (names : List (List ℕ)) (before mid after : List Call) → Follows mid after → AreReliedOn parts names before mid → AreReliedOn parts names before after
+relied_later parts names before mid after later are name among b named has = ⊎_elim
+    (λ kept. inl (subst (λ (l : List Call). IsKept parts b l) (sym later.1) (kept_on parts b later.0 mid kept)))
+    (λ gone. inr (subst (λ (l : List Call). IsGone parts b l) (sym later.1) (gone_on parts b later.0 mid gone)))
+    (are name among b named has)
+
+-- ---- what stays so as files are given names
+
+module _ (P : List Call → Type 0) (mid : List Call) (so : (calls : List Call) → P (calls ++ mid)) where
+  link_since : (call : Call) (calls : List Call) → LinksAfter P call (calls ++ mid)
+  link_since (Made name ok) calls = tt
+  link_since (Wrote bytes ok) calls = tt
+  link_since (Synced ok) calls = tt
+  link_since (Linked from to answer) calls = so calls
+  link_since (Removed name ok) calls = tt
+  link_since (Settled ok) calls = tt
+  link_since (Locked kind ok) calls = tt
+  link_since Unlocked calls = tt
+  link_since Began calls = tt
+  link_since (Listed answer) calls = tt
+  link_since (Read name answer) calls = tt
+  link_since (Looked name ok) calls = tt
+
+  each_since : (calls : List Call) → EachLinksAfter P calls mid
+  each_since [] = tt
+  each_since (call ∷ calls) = (link_since call calls, each_since calls)
+
+  pub links_since : (after : List Call) → Follows mid after → LinksOnly P mid after
+  links_since after (calls, is) = (calls, is, each_since calls)
+
+-- files are given names once all of some names are kept
+pub kept_first : (parts : Parts) (names : List (List ℕ)) (before mid after : List Call) → Follows mid after → AreKept parts names before mid → LinksOnly (AreKept parts names before) mid after
+kept_first parts names before mid after later are = links_since (AreKept parts names before) mid (λ calls. kept_later parts names before mid (calls ++ mid) (calls, refl) are) after later

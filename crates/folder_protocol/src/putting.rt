@@ -7,6 +7,7 @@ ghost use Rattle.folder_protocol.specs.Goes.{GoesInTurn};
 ghost use Rattle.folder_protocol.specs.Premises.{IsExclusive, IsWritten, IsGuarded, MayPut, MayPlace};
 ghost use Rattle.folder_protocol.specs.Causes.{Fails, HasCall, LookCause, IsNamed};
 ghost use Rattle.folder_protocol.specs.Linking.{GoesPlainly, LinksOnly};
+ghost use Rattle.folder_protocol.specs.Sweeping.{Tries};
 
 use crate::Folder;
 use std::alloc::Global;
@@ -42,6 +43,8 @@ pub fn put<F: Folder>(
     ensures fails { OnErr result (HasCall Fails (F.history folder.old) (F.history folder.new)) }
     // The file was given its name, or another file had it.
     ensures named { IfOk result (λ how. IsNamed how name.now (F.history folder.old) (F.history folder.new)) }
+    // Whatever the answer is, the temporary was to be removed.
+    ensures cleaned { HasCall (Tries temporary.now) (F.history folder.old) (F.history folder.new) }
     // It changes no lock.
     ensures locks { lock_of (F.history folder.new) ≡ lock_of (F.history folder.old) }
 {
@@ -97,6 +100,7 @@ pub fn place<F: Folder>(
     ensures cause { IfOk result (λ how. LookCause how name.now bytes.now (F.history folder.old) (F.history folder.new)) }
     ensures fails { OnErr result (HasCall Fails (F.history folder.old) (F.history folder.new)) }
     ensures named { IfOk result (λ how. IsNamed how name.now (F.history folder.old) (F.history folder.new)) }
+    ensures cleaned { HasCall (Tries temporary.now) (F.history folder.old) (F.history folder.new) }
     ensures links { LinksOnly (λ calls. calls ≡ F.history folder.old) (F.history folder.old) (F.history folder.new) }
     ensures locks { lock_of (F.history folder.new) ≡ lock_of (F.history folder.old) }
 {

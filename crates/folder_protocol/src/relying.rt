@@ -5,7 +5,7 @@ ghost use Rattle.folder_model.specs.Parts.{Parts};
 ghost use Rattle.folder_model.specs.Turn.{IsStored};
 ghost use Rattle.folder_protocol.specs.Causes.{Fails, HasCall, LookCause, IsNamed};
 ghost use Rattle.folder_protocol.specs.Goes.{GoesInTurn};
-ghost use Rattle.folder_protocol.specs.Keeping.{AreKept};
+ghost use Rattle.folder_protocol.specs.Keeping.{AreKept, AreReliedOn};
 ghost use Rattle.folder_protocol.specs.Premises.{MayPut};
 ghost use Rattle.folder_protocol.specs.Linking.{GoesPlainly, LinksOnly, LinksNone, WasSo, Watches, Each, One};
 
@@ -21,6 +21,7 @@ use std::io;
 fn keep_relied<F: Folder>(alloc: Global, folder: &mut F, relied: &[String]) -> io::Result<()>
     ensures in_turn { (parts : Parts) → GoesInTurn parts (F.history folder.old) (F.history folder.new) }
     ensures kept { (parts : Parts) → OnOk result (AreKept parts (map string_bytes relied.now) (F.history folder.old) (F.history folder.new)) }
+    ensures safe { (parts : Parts) → OnOk result (AreReliedOn parts (map string_bytes relied.now) (F.history folder.old) (F.history folder.new)) }
     ensures fails { OnErr result (HasCall Fails (F.history folder.old) (F.history folder.new)) }
     ensures plain { GoesPlainly (F.history folder.old) (F.history folder.new) }
 {
@@ -44,6 +45,10 @@ pub fn keep_and_put<F: Folder>(
     ensures in_turn { (parts : Parts) → MayPut parts temporary.now name.now bytes.now → GoesInTurn parts (F.history folder.old) (F.history folder.new) }
     // Each part that it relies on is kept, or gone.
     ensures kept { (parts : Parts) → MayPut parts temporary.now name.now bytes.now → OnOk result (AreKept parts (map string_bytes relied.now) (F.history folder.old) (F.history folder.new)) }
+    // Each part of them that was read before is kept, or is gone and covered by another: either way it is safe.
+    ensures safe { (parts : Parts) → MayPut parts temporary.now name.now bytes.now → OnOk result (AreReliedOn parts (map string_bytes relied.now) (F.history folder.old) (F.history folder.new)) }
+    // No call was to give a file a name before each of them was kept, or gone, whatever the answer is: so nothing is put if one can't be kept.
+    ensures first { (parts : Parts) → MayPut parts temporary.now name.now bytes.now → LinksOnly (AreKept parts (map string_bytes relied.now) (F.history folder.old)) (F.history folder.old) (F.history folder.new) }
     // Once the new part is on the disk it is stored.
     ensures stored { (parts : Parts) → name.now ≡ parts.name_of bytes.now → IfOk result (λ how. how ≡ Outcome.OnDisk → IsStored parts bytes.now (F.history folder.new)) }
     // Any other answer has its cause: a sync that failed, no file, or other bytes; and so has an error: a call that failed.
@@ -74,6 +79,10 @@ pub fn keep_and_put_judged<F: Folder, T: Taker>(
     ensures in_turn { (parts : Parts) → MayPut parts temporary.now name.now bytes.now → GoesInTurn parts (F.history folder.old) (F.history folder.new) }
     // Each part that it relies on is kept, or gone.
     ensures kept { (parts : Parts) → MayPut parts temporary.now name.now bytes.now → OnOk result (AreKept parts (map string_bytes relied.now) (F.history folder.old) (F.history folder.new)) }
+    // Each part of them that was read before is kept, or is gone and covered by another: either way it is safe.
+    ensures safe { (parts : Parts) → MayPut parts temporary.now name.now bytes.now → OnOk result (AreReliedOn parts (map string_bytes relied.now) (F.history folder.old) (F.history folder.new)) }
+    // No call was to give a file a name before each of them was kept, or gone, whatever the answer is: so nothing is put if one can't be kept.
+    ensures first { (parts : Parts) → MayPut parts temporary.now name.now bytes.now → LinksOnly (AreKept parts (map string_bytes relied.now) (F.history folder.old)) (F.history folder.old) (F.history folder.new) }
     // Once the new part is on the disk it is stored.
     ensures stored { (parts : Parts) → MayPut parts temporary.now name.now bytes.now → IfOk result (λ answer. answer ≡ Some Outcome.OnDisk → IsStored parts bytes.now (F.history folder.new)) }
     // Any other answer but None has its cause: a sync that failed, no file, or other bytes; and so has an error: a call that failed.

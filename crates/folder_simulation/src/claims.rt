@@ -36,6 +36,14 @@ pub fn is_name_of(name: &str, bytes: &[u8]) -> bool
     }
 }
 
+/// The bytes of the part of a name.
+pub fn bytes_of(name: &str) -> &[u8] {
+    match name.as_bytes().split_first() {
+        Some((_, rest)) => rest,
+        None => &[],
+    }
+}
+
 /// Whether bytes hold a claim.
 pub fn holds(bytes: &[u8], claim: u8) -> bool {
     bytes.contains(&claim)

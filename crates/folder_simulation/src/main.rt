@@ -9,8 +9,10 @@ mod calls;
 mod chance;
 mod claims;
 mod disk;
+mod judged;
 mod losses;
 mod process;
+mod turning;
 mod work;
 mod world;
 
@@ -40,6 +42,8 @@ fn add(all: &mut Seen, one: &Seen) {
     all.stored = all.stored.saturating_add(one.stored);
     all.removed = all.removed.saturating_add(one.removed);
     all.read = all.read.saturating_add(one.read);
+    all.kept = all.kept.saturating_add(one.kept);
+    all.judged = all.judged.saturating_add(one.judged);
 }
 
 /// One history: whether nothing is wrong with it.
@@ -83,8 +87,15 @@ fn all<R: Print + AllocGlobal>(rt: &R, count: u64, first: u64) -> io::Result<boo
         }
     }
     println!(rt;
-        "histories={count} wrong={wrong} calls={} kills={} losses={} stored={} removed={} read={}",
-        seen.calls, seen.kills, seen.losses, seen.stored, seen.removed, seen.read
+        "histories={count} wrong={wrong} calls={} kills={} losses={} stored={} removed={} read={} kept={} judged={}",
+        seen.calls,
+        seen.kills,
+        seen.losses,
+        seen.stored,
+        seen.removed,
+        seen.read,
+        seen.kept,
+        seen.judged
     )?;
     Ok(wrong == 0)
 }

@@ -1,7 +1,7 @@
 //! A process that uses the folder.
 
 use crate::work::Work;
-use folder_turns::Told;
+use folder_turns::{Told, Turn};
 use std::alloc::Global;
 
 /// How the folder is locked.
@@ -25,6 +25,8 @@ pub struct Listing {
 pub struct Process {
     pub number: u8,
     pub work: Option<Work>,
+    /// The order that it follows, in place of a work.
+    pub turn: Option<Turn>,
     pub told: Vec<Told>,
     /// The file that is open, by its number, and whether no write or sync of it has failed.
     pub open: Option<usize>,
@@ -43,6 +45,7 @@ impl Process {
         Process {
             number,
             work: None,
+            turn: None,
             told: Vec::new(alloc),
             open: None,
             is_clean: false,
@@ -59,6 +62,16 @@ impl Process {
         self.told.clear();
     }
 
+    /// It begins to follow an order.
+    pub fn follow(&mut self, turn: Turn) {
+        self.turn = Some(turn);
+    }
+
+    /// Whether it does nothing.
+    pub fn is_idle(&self) -> bool {
+        self.work.is_none() && self.turn.is_none()
+    }
+
     /// A name was removed: a listing that goes on need not give it.
     pub fn lose(&mut self, name: &str) {
         if let Some(listing) = &mut self.listing {
@@ -69,6 +82,7 @@ impl Process {
     /// It ends, or is killed.
     pub fn end(&mut self) {
         self.work = None;
+        self.turn = None;
         self.told.clear();
         self.open = None;
         self.is_clean = false;

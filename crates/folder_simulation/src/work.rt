@@ -14,6 +14,8 @@ pub enum Purpose {
     Pack,
     /// To join them and drop what is dead.
     Forget,
+    /// To rely on them.
+    Rely,
 }
 
 /// What a process does.

@@ -2,12 +2,14 @@
 
 use crate::calls::{Fate, link, list, lock_of, make, may_lock, read, rest, sync, write};
 use crate::chance::Chance;
-use crate::claims::{CLAIMS, holds, is_dead, join, name_of};
+use crate::claims::{CLAIMS, bytes_of, holds, is_dead, join, name_of};
 use crate::disk::Disk;
+use crate::judged::Judged;
 use crate::losses::is_safe;
 use crate::process::{Lock, Process};
+use crate::turning;
 use crate::work::{Came, Purpose, Work};
-use folder_turns::{Answer, Request, Step, Told, next};
+use folder_turns::{Answer, Order, Request, Step, Task, Told, Turn, next};
 use std::alloc::{AllocError, Global};
 use std::io;
 
@@ -20,6 +22,10 @@ pub struct Seen {
     pub stored: u64,
     pub removed: u64,
     pub read: u64,
+    /// How many orders have had parts on the disk that were read.
+    pub kept: u64,
+    /// How many parts were put by the judgement of those that were seen.
+    pub judged: u64,
 }
 
 impl Seen {
@@ -32,6 +38,8 @@ impl Seen {
             stored: 0,
             removed: 0,
             read: 0,
+            kept: 0,
+            judged: 0,
         }
     }
 }
@@ -43,6 +51,8 @@ pub enum Wrong {
     MayBeLost(u8),
     /// A reading lacks a claim that was answered before it.
     Unread(u8),
+    /// Two parts were put by judgement, and neither was seen by whoever put the other.
+    Raced,
     /// The code did not make the calls that were told.
     Strayed,
 }
@@ -57,6 +67,8 @@ pub struct World {
     second: Process,
     /// The claims that were once answered.
     answered: Vec<u8>,
+    /// The parts that were put by judgement since power was lost last.
+    judged: Vec<Judged>,
     drawn: u64,
     /// Once in so many steps the two processes change places.
     turns: usize,
@@ -79,6 +91,7 @@ impl World {
             first: Process::new(alloc, 1),
             second: Process::new(alloc, 2),
             answered: Vec::new(alloc),
+            judged: Vec::new(alloc),
             drawn: 0,
             seen: Seen::new(),
             wrong: None,
@@ -140,9 +153,10 @@ impl World {
 
     /// What the process does next.
     fn asked(&mut self) -> Option<Step<io::Result<Came>>> {
-        let step = match &self.first.work {
-            Some(work) => next(self.alloc, work, work.bytes(), self.first.told.as_slice()),
-            None => return None,
+        let step = match (&mut self.first.turn, &self.first.work) {
+            (Some(turn), _) => turning::step(self.alloc, turn),
+            (None, Some(work)) => next(self.alloc, work, work.bytes(), self.first.told.as_slice()),
+            (None, None) => return None,
         };
         match step {
             Ok(step) => Some(step),
@@ -155,7 +169,7 @@ impl World {
 
     /// The process goes one step.
     fn step(&mut self, may_fail: bool) -> io::Result<()> {
-        if self.first.work.is_none() {
+        if self.first.is_idle() {
             let work = self.chosen()?;
             self.first.begin(work);
         }
@@ -175,7 +189,7 @@ impl World {
             Some(answer) => {
                 self.seen.calls = self.seen.calls.saturating_add(1);
                 self.tell_call(&request, &answer)?;
-                self.first.told.push(Told { request, answer })?;
+                self.told(request, answer)?;
             }
             None => {
                 if lock_of(&request).is_some() {
@@ -184,6 +198,14 @@ impl World {
             }
         }
         Ok(())
+    }
+
+    /// The process is told what came of its call.
+    fn told(&mut self, request: Request, answer: Answer) -> Result<(), AllocError> {
+        match &mut self.first.turn {
+            Some(turn) => turning::tell(turn, request, answer),
+            None => Ok(self.first.told.push(Told { request, answer })?),
+        }
     }
 
     /// A call is made, and comes to this. None: it waits.
@@ -223,9 +245,10 @@ impl World {
 
     /// Some of what is left of the bytes that the process puts are written.
     fn write(&mut self, from: usize, fate: Fate) -> io::Result<Answer> {
-        let whole = match &self.first.work {
-            Some(work) => Vec::from_slice(self.alloc, work.bytes())?,
-            None => Vec::new(self.alloc),
+        let whole = match (&self.first.turn, &self.first.work) {
+            (Some(turn), _) => turn.order.bytes.clone()?,
+            (None, Some(work)) => Vec::from_slice(self.alloc, work.bytes())?,
+            (None, None) => Vec::new(self.alloc),
         };
         let bytes = rest(whole.as_slice(), from);
         Ok(write(
@@ -261,6 +284,9 @@ impl World {
             Ok(came) => came,
             Err(_) => Came::Nothing,
         };
+        if let Some(turn) = self.first.turn.take() {
+            return self.followed(turn, came);
+        }
         match self.first.work.take() {
             Some(work) => match came {
                 Came::Found(parts) => self.have(work, parts),
@@ -302,9 +328,53 @@ impl World {
         }
     }
 
+    /// The process has come to the end of an order. If it succeeded, the parts on which it relies are on the disk, and so is the part that
+    /// it puts.
+    fn followed(&mut self, turn: Turn, came: Came) -> io::Result<()> {
+        let Came::Stored = came else {
+            return Ok(());
+        };
+        let Turn { order, .. } = turn;
+        if order.task != Task::PutJudged {
+            self.keep(order.relied.as_slice())?;
+        }
+        if order.task != Task::KeepAll {
+            self.answer(order.bytes.as_slice())?;
+        }
+        match order.task {
+            Task::PutJudged | Task::KeepAndPutJudged => self.judge(order),
+            _ => Ok(()),
+        }
+    }
+
+    /// The parts of these names were answered to be on the disk.
+    fn keep(&mut self, names: &[String]) -> io::Result<()> {
+        self.seen.kept = self.seen.kept.saturating_add(1);
+        for name in names {
+            self.claim(bytes_of(name.as_str()))?;
+        }
+        Ok(())
+    }
+
+    /// A part was put by judgement: it has to go with all others that were put so.
+    fn judge(&mut self, order: Order) -> io::Result<()> {
+        let Order { bytes, names, .. } = order;
+        let judged = Judged { bytes, seen: names };
+        if !self.judged.iter().all(|other| judged.goes_with(other)) {
+            self.wrong = Some(Wrong::Raced);
+        }
+        self.seen.judged = self.seen.judged.saturating_add(1);
+        Ok(self.judged.push(judged)?)
+    }
+
     /// The part with these bytes was answered to be on the disk.
     fn answer(&mut self, bytes: &[u8]) -> io::Result<()> {
         self.seen.stored = self.seen.stored.saturating_add(1);
+        self.claim(bytes)
+    }
+
+    /// The claims of these bytes were answered.
+    fn claim(&mut self, bytes: &[u8]) -> io::Result<()> {
         for claim in bytes {
             if !self.answered.contains(claim) {
                 self.answered.push(*claim)?;
@@ -324,6 +394,7 @@ impl World {
         match work {
             Work::Read(Purpose::Pack) => self.pack(parts, false),
             Work::Read(Purpose::Forget) => self.pack(parts, true),
+            Work::Read(Purpose::Rely) => self.rely(parts),
             _ => Ok(()),
         }
     }
@@ -361,6 +432,27 @@ impl World {
         Ok(())
     }
 
+    /// The process begins to follow an order that is about all that it has read.
+    fn rely(&mut self, parts: Vec<Vec<u8>>) -> io::Result<()> {
+        let bytes = self.bytes()?;
+        let task = match self.chance.below(4) {
+            0 => Task::KeepAll,
+            1 => Task::PutJudged,
+            2 => Task::KeepAndPut,
+            _ => Task::KeepAndPutJudged,
+        };
+        let order = Order {
+            task,
+            temporary: self.temporary()?,
+            name: name_of(self.alloc, bytes.as_slice())?,
+            bytes,
+            names: names_of(self.alloc, parts.as_slice())?,
+            relied: names_of(self.alloc, parts.as_slice())?,
+        };
+        self.first.follow(Turn::new(self.alloc, order));
+        Ok(())
+    }
+
     /// A name of a temporary that was never drawn.
     fn temporary(&mut self) -> io::Result<String> {
         self.drawn = self.drawn.saturating_add(1);
@@ -384,10 +476,11 @@ impl World {
 
     /// What a process does that has nothing to do.
     fn chosen(&mut self) -> io::Result<Work> {
-        Ok(match self.chance.below(7) {
+        Ok(match self.chance.below(9) {
             0 => Work::Read(Purpose::Have),
             1 | 2 => Work::Read(Purpose::Pack),
             3 | 4 => Work::Read(Purpose::Forget),
+            5 | 6 => Work::Read(Purpose::Rely),
             _ => {
                 let bytes = self.bytes()?;
                 Work::Put {
@@ -432,6 +525,7 @@ impl World {
         self.seen.losses = self.seen.losses.saturating_add(1);
         self.tell(format!(in self.alloc; "power lost")?)?;
         self.disk.lose_power(&mut self.chance)?;
+        self.judged.clear();
         self.first.end();
         self.second.end();
         Ok(())
@@ -459,13 +553,22 @@ impl World {
         self.second.end();
         self.first.begin(Work::Read(Purpose::Have));
         for _ in 0..1_000 {
-            if self.first.work.is_some() {
+            if !self.first.is_idle() {
                 self.step(false)?;
             }
         }
         self.look();
         Ok(())
     }
+}
+
+/// The names of parts with these bytes.
+fn names_of(alloc: Global, parts: &[Vec<u8>]) -> Result<Vec<String>, AllocError> {
+    let mut names = Vec::new(alloc);
+    for part in parts {
+        names.push(name_of(alloc, part.as_slice())?)?;
+    }
+    Ok(names)
 }
 
 /// Whether a part holds a claim.

@@ -6,6 +6,7 @@ mod keeping;
 mod listing;
 mod lock;
 mod making;
+mod modes;
 mod names;
 mod refusals;
 mod sweeping;

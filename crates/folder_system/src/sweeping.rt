@@ -59,7 +59,7 @@ pub fn remove_unfinished<R: Files + AllocGlobal + Clone + Drop>(
 }
 
 /// Whether a name is that of a part: 32 digits of `0` to `9` and `a` to `f`, and `.lanes`.
-fn is_part_name(name: &str) -> bool {
+pub fn is_part_name(name: &str) -> bool {
     match name.strip_suffix(PART) {
         Some(digits) => {
             digits.len() == PART_DIGITS

@@ -8,12 +8,13 @@ use crate::fault::FolderFault;
 use crate::keeping::{find, open_if_there, open_to_look};
 use crate::listing::list_locked;
 use crate::lock::FolderLock;
+use crate::modes::permissions_of_least;
 use crate::names::path_in;
 use crate::refusals::too_many_files;
 use crate::temporary::{is_ours, link_or_rename, remove_unheld};
 use folder_protocol::{Folder, Found, Looks, Opened, Record, Sweeps};
 use std::alloc::Global;
-use std::fs::{self, File, Files, OpenOptions};
+use std::fs::{self, File, Files, OpenOptions, Permissions};
 use std::io::{self, ErrorKind, Read, Write};
 use std::rt::Clock;
 
@@ -29,6 +30,8 @@ pub struct SystemFolder<'r, R: Files<File = File>> {
     unread: Option<String>,
     unsynced: Option<ErrorKind>,
     unreadable: usize,
+    /// The permissions that a new file takes: those of the part with the least name that was listed.
+    permissions: Option<Permissions>,
     /// Whether no sync of the folder has failed since it was opened.
     settles: bool,
     calls: Record,
@@ -51,6 +54,7 @@ impl<'r, R: Files<File = File> + AllocGlobal> SystemFolder<'r, R> {
             unread: None,
             unsynced: None,
             unreadable: 0,
+            permissions: None,
             settles: true,
             calls: Record::new(),
         })
@@ -90,6 +94,21 @@ impl<'r, R: Files<File = File>> SystemFolder<'r, R> {
     pub fn unreadable(&self) -> usize {
         self.unreadable
     }
+
+    /// The permissions that a new file takes, if parts were listed: those of the one with the least name.
+    pub fn permissions(&self) -> Option<Permissions> {
+        match &self.permissions {
+            Some(permissions) => permissions.clone().ok(),
+            None => None,
+        }
+    }
+
+    /// Gives a new file these permissions from now on, as of a listing by another handle of the folder.
+    pub fn take_permissions(&mut self, permissions: Option<Permissions>)
+        ensures { self.new.calls.noted ≡ self.old.calls.noted }
+    {
+        self.permissions = permissions;
+    }
 }
 
 /// The file that is open.
@@ -100,15 +119,23 @@ fn opened(file: &Option<File>) -> io::Result<&File> {
     }
 }
 
-/// Makes the file of a new name in a folder, and takes its lock, so that no sweep removes it. The error is `AlreadyExists` if something
-/// has the name, or a sweep came between.
-fn made<R: Files<File = File> + AllocGlobal>(rt: &R, folder: &str, name: &str) -> io::Result<File> {
+/// Makes the file of a new name in a folder, with these permissions if there are some, and takes its lock, so that no sweep removes it. The
+/// error is `AlreadyExists` if something has the name, or a sweep came between.
+fn made<R: Files<File = File> + AllocGlobal>(
+    rt: &R,
+    folder: &str,
+    name: &str,
+    permissions: &Option<Permissions>,
+) -> io::Result<File> {
     let path = path_in(rt.alloc(), folder, name)?;
     let file = OpenOptions::new()
         .write(true)
         .create_new(true)
         .open(rt, path.as_str())?;
     if is_ours(rt, &file, path.as_str())? {
+        if let Some(permissions) = permissions {
+            let _ = file.set_permissions(permissions.clone()?);
+        }
         Ok(file)
     } else {
         Err(io::Error::from(ErrorKind::AlreadyExists))
@@ -237,7 +264,7 @@ impl<'r, R: Files<File = File> + Clock + AllocGlobal + Clone + Drop> Folder
 
     fn make(&mut self, name: &str) -> io::Result<()> {
         self.begin();
-        match made(self.rt, self.path.as_str(), name) {
+        match made(self.rt, self.path.as_str(), name, &self.permissions) {
             Ok(file) => {
                 self.file = Some(file);
                 self.calls.made(name, true);
@@ -335,6 +362,11 @@ impl<'r, R: Files<File = File> + Clock + AllocGlobal + Clone + Drop> Folder
             Ok(listing) => {
                 self.unreadable = listing.unreadable();
                 let names = listing.into_names();
+                self.permissions = permissions_of_least(
+                    self.rt,
+                    self.path.as_str(),
+                    names.as_slice(),
+                );
                 self.calls.listed(names.as_slice());
                 Ok(names)
             }

@@ -10,11 +10,11 @@ use Rattle.folder_model.specs.Parts.{Parts}
 use Rattle.folder_model.specs.Turn.{Gave, IsStored, listing_of}
 use Rattle.folder_protocol.specs.Causes.{Fails, HasCall, Lacks, LookCause}
 use Rattle.folder_protocol.specs.Goes.{AreRemoved}
-use Rattle.folder_protocol.specs.Keeping.{AreKept}
+use Rattle.folder_protocol.specs.Keeping.{AreKept, AreReliedOn}
 use Rattle.folder_protocol.specs.declared.putting.Outcome.{Outcome}
 use Rattle.folder_protocol.specs.declared.putting.Outcome.TheVariants.{OnDisk}
 use Rattle.folder_protocol.specs.Linking.{LinksOnly, LinksNone, Watches, Each, HasEach}
-use Rattle.folder_turns.specs.Orders.{Matter, MayTake, Caused, EndSays, HasOnlySeen, HasUnseen, came, replaced, judged, listed, kept}
+use Rattle.folder_turns.specs.Orders.{Matter, MayTake, MayEnd, Caused, EndSays, HasOnlySeen, HasUnseen, came, replaced, judged, listed, kept}
 use Rattle.folder_turns.specs.declared.order.Task.{Task}
 use Rattle.folder_turns.specs.declared.order.Task.TheVariants as tasks
 use Rattle.folder_turns.specs.declared.order.End.{End}
@@ -58,21 +58,25 @@ module _ {E : Type 0} (m : Matter) (parts : Parts) (before calls : List Call) wh
   came_says P (Ok how) said = λ is. said (came_is how OnDisk is)
   came_says P (Err error) said = tt
 
+  came_may : (P : End → Type 0) (given : Result Outcome E) → ((how : Outcome) → P (ends.Came how)) → IfOk (came given) (λ end. P end)
+  came_may P (Ok how) so = so how
+  came_may P (Err error) so = tt
+
   -- of a part that is put
   pub put_says : (given : Result Outcome E) → IfOk given (λ how. how ≡ OnDisk → IsStored parts m.bytes calls) → IfOk given (λ how. LookCause how m.name m.bytes before calls)
       → OnErr given (HasCall Fails before calls) → EndSays tasks.Put m (came given) parts before calls
-  put_says given stored cause fails = (came_says (IsStored parts m.bytes calls) given stored, came_caused given cause fails, tt)
+  put_says given stored cause fails = (came_says (IsStored parts m.bytes calls) given stored, came_caused given cause fails, tt, tt, came_may (MayEnd tasks.Put) given (λ how. tt), tt)
 
   -- of one that is there
   pub keep_says : (given : Result Outcome E) → IfOk given (λ how. how ≡ OnDisk → IsStored parts m.bytes calls) → IfOk given (λ how. LookCause how m.name m.bytes before calls)
       → OnErr given (HasCall Fails before calls) → LinksNone before calls → EndSays tasks.Keep m (came given) parts before calls
-  keep_says given stored cause fails links = (came_says (IsStored parts m.bytes calls) given stored, came_caused given cause fails, links)
+  keep_says given stored cause fails links = (came_says (IsStored parts m.bytes calls) given stored, came_caused given cause fails, links, tt, came_may (MayEnd tasks.Keep) given (λ how. tt), tt)
 
   -- of parts that are removed
   pub removed_says : (given : Result Outcome E) → IfOk given (λ how. how ≡ OnDisk → AreRemoved m.names before calls) → IfOk given (λ how. how ≡ OnDisk → IsStored parts m.bytes calls)
       → IfOk given (λ how. LookCause how m.name m.bytes before calls) → OnErr given (HasCall Fails before calls) → LinksNone before calls → EndSays tasks.Remove m (came given) parts before calls
-  removed_says (Ok how) gone stored cause fails links = (λ is. (gone (came_is how OnDisk is), stored (came_is how OnDisk is)), cause, links)
-  removed_says (Err error) gone stored cause fails links = (tt, fails, links)
+  removed_says (Ok how) gone stored cause fails links = (λ is. (gone (came_is how OnDisk is), stored (came_is how OnDisk is)), cause, links, tt, tt, tt)
+  removed_says (Err error) gone stored cause fails links = (tt, fails, links, tt, tt, tt)
 
   -- of parts in whose place another one comes
   pub replaced_says : (given : Result (Option Outcome) E) → IfOk given (λ answer. answer ≡ Some OnDisk → AreRemoved m.names before calls)
@@ -80,46 +84,52 @@ module _ {E : Type 0} (m : Matter) (parts : Parts) (before calls : List Call) wh
       → IfOk given (λ answer. IfSome answer (λ how. LookCause how m.name m.bytes before calls)) → IfOk given (λ answer. answer ≡ None → HasCall (Lacks m.names) before calls)
       → OnErr given (HasCall Fails before calls) → LinksOnly (Watches (HasEach m.names)) before calls → EndSays tasks.Replace m (replaced given) parts before calls
   replaced_says (Ok (Some how)) gone stored cause overtaken fails links =
-      (λ is. let on = ap (λ (o : Outcome). Some o) (came_is how OnDisk is) in (gone on, stored on), cause, links)
-  replaced_says (Ok None) gone stored cause overtaken fails links = (λ is. cc, overtaken refl, links)
-  replaced_says (Err error) gone stored cause overtaken fails links = (tt, fails, links)
+      (λ is. let on = ap (λ (o : Outcome). Some o) (came_is how OnDisk is) in (gone on, stored on), cause, links, tt, tt, tt)
+  replaced_says (Ok None) gone stored cause overtaken fails links = (λ is. cc, overtaken refl, links, tt, tt, tt)
+  replaced_says (Err error) gone stored cause overtaken fails links = (tt, fails, links, tt, tt, tt)
 
   -- of names that are listed
   pub listed_says : (given : Result (Vec (String Global)) E) → IfOk given (λ names. listing_of calls ≡ Gave (map string_bytes names.items))
       → OnErr given (HasCall Fails before calls) → LinksNone before calls → EndSays tasks.List m (listed given) parts before calls
-  listed_says (Ok names) gave fails links = (λ others is. subst (λ (v : Vec (String Global)). listing_of calls ≡ Gave (map string_bytes v.items)) (listed_is names others is) gave, tt, links)
-  listed_says (Err error) gave fails links = (tt, fails, links)
+  listed_says (Ok names) gave fails links = (λ others is. subst (λ (v : Vec (String Global)). listing_of calls ≡ Gave (map string_bytes v.items)) (listed_is names others is) gave, tt, links, tt, tt, tt)
+  listed_says (Err error) gave fails links = (tt, fails, links, tt, tt, tt)
 
   -- of parts that are kept
   pub kept_says : (given : Result (Unit {0}) E) → OnOk given (AreKept parts m.names before calls) → OnErr given (HasCall Fails before calls) → LinksNone before calls
-      → EndSays tasks.KeepAll m (kept given) parts before calls
-  kept_says (Ok done) are fails links = (are, tt, links)
-  kept_says (Err error) are fails links = (tt, fails, links)
+      → OnOk given (AreReliedOn parts m.names before calls) → EndSays tasks.KeepAll m (kept given) parts before calls
+  kept_says (Ok done) are fails links safe = (are, tt, links, tt, tt, safe)
+  kept_says (Err error) are fails links safe = (tt, fails, links, tt, tt, tt)
 
   -- of a part that is to go with all that are there
   pub judged_says : (given : Result (Option Outcome) E) → IfOk given (λ answer. answer ≡ Some OnDisk → IsStored parts m.bytes calls)
       → IfOk given (λ answer. IfSome answer (λ how. HasOnlySeen m.names before calls)) → IfOk given (λ answer. IfSome answer (λ how. LookCause how m.name m.bytes before calls))
       → IfOk given (λ answer. answer ≡ None → HasUnseen m.names before calls) → OnErr given (HasCall Fails before calls) → LinksOnly (Watches (Each (λ name. Among name m.names))) before calls
       → EndSays tasks.PutJudged m (judged given) parts before calls
-  judged_says (Ok (Some how)) stored seen cause unseen fails links = ((λ is. stored (ap (λ (o : Outcome). Some o) (came_is how OnDisk is)), λ other is. seen), cause, links)
-  judged_says (Ok None) stored seen cause unseen fails links = ((λ is. cc, λ other is. cc), unseen refl, links)
-  judged_says (Err error) stored seen cause unseen fails links = (tt, fails, links)
+  judged_says (Ok (Some how)) stored seen cause unseen fails links = ((λ is. stored (ap (λ (o : Outcome). Some o) (came_is how OnDisk is)), λ other is. seen), cause, links, tt, tt, tt)
+  judged_says (Ok None) stored seen cause unseen fails links = ((λ is. cc, λ other is. cc), unseen refl, links, tt, tt, tt)
+  judged_says (Err error) stored seen cause unseen fails links = (tt, fails, links, tt, tt, tt)
 
   kept_came : (given : Result Outcome E) → OnOk given (AreKept parts m.relied before calls) → IfOk given (λ how. how ≡ OnDisk → IsStored parts m.bytes calls)
       → IfOk (came given) (λ end. AreKept parts m.relied before calls × (end ≡ ends.Came OnDisk → IsStored parts m.bytes calls))
   kept_came (Ok how) are stored = (are, λ is. stored (came_is how OnDisk is))
   kept_came (Err error) are stored = tt
 
+  came_safe : (P : Type 0) (given : Result Outcome E) → OnOk given P → IfOk (came given) (λ end. P)
+  came_safe P (Ok how) so = so
+  came_safe P (Err error) so = tt
+
   -- of a part that relies on others which are kept
   pub keeping_says : (given : Result Outcome E) → OnOk given (AreKept parts m.relied before calls) → IfOk given (λ how. how ≡ OnDisk → IsStored parts m.bytes calls)
-      → IfOk given (λ how. LookCause how m.name m.bytes before calls) → OnErr given (HasCall Fails before calls) → EndSays tasks.KeepAndPut m (came given) parts before calls
-  keeping_says given are stored cause fails = (kept_came given are stored, came_caused given cause fails, tt)
+      → IfOk given (λ how. LookCause how m.name m.bytes before calls) → OnErr given (HasCall Fails before calls) → LinksOnly (AreKept parts m.relied before) before calls
+      → OnOk given (AreReliedOn parts m.relied before calls) → EndSays tasks.KeepAndPut m (came given) parts before calls
+  keeping_says given are stored cause fails first safe =
+      (kept_came given are stored, came_caused given cause fails, tt, first, came_may (MayEnd tasks.KeepAndPut) given (λ how. tt), came_safe (AreReliedOn parts m.relied before calls) given safe)
 
   -- and of one that is to go with all that are there, too
   pub relying_says : (given : Result (Option Outcome) E) → OnOk given (AreKept parts m.relied before calls) → IfOk given (λ answer. answer ≡ Some OnDisk → IsStored parts m.bytes calls)
       → IfOk given (λ answer. IfSome answer (λ how. HasOnlySeen m.names before calls)) → IfOk given (λ answer. IfSome answer (λ how. LookCause how m.name m.bytes before calls))
       → IfOk given (λ answer. answer ≡ None → HasUnseen m.names before calls) → OnErr given (HasCall Fails before calls) → LinksOnly (Watches (Each (λ name. Among name m.names))) before calls
-      → EndSays tasks.KeepAndPutJudged m (judged given) parts before calls
-  relying_says (Ok (Some how)) are stored seen cause unseen fails links = ((are, λ is. stored (ap (λ (o : Outcome). Some o) (came_is how OnDisk is)), λ other is. seen), cause, links)
-  relying_says (Ok None) are stored seen cause unseen fails links = ((are, λ is. cc, λ other is. cc), unseen refl, links)
-  relying_says (Err error) are stored seen cause unseen fails links = (tt, fails, links)
+      → LinksOnly (AreKept parts m.relied before) before calls → OnOk given (AreReliedOn parts m.relied before calls) → EndSays tasks.KeepAndPutJudged m (judged given) parts before calls
+  relying_says (Ok (Some how)) are stored seen cause unseen fails links first safe = ((are, λ is. stored (ap (λ (o : Outcome). Some o) (came_is how OnDisk is)), λ other is. seen), cause, links, first, tt, safe)
+  relying_says (Ok None) are stored seen cause unseen fails links first safe = ((are, λ is. cc, λ other is. cc), unseen refl, links, first, tt, safe)
+  relying_says (Err error) are stored seen cause unseen fails links first safe = (tt, fails, links, first, tt, tt)

@@ -3,3 +3,4 @@ pub mod Finding
 pub mod Runs
 pub mod Steps
 pub mod Straying
+pub mod FreeCalls

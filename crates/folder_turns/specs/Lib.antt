@@ -6,3 +6,4 @@ pub mod Steps
 pub mod Asking
 pub mod Orders
 pub mod Turns
+pub mod FreeCalls

@@ -9,7 +9,7 @@ use Rattle.folder_model.specs.Turn.{Gave, IsStored, listing_of}
 use Rattle.folder_model.specs.Disk.{Among}
 use Rattle.folder_protocol.specs.Causes.{Fails, HasCall, Lacks, LookCause}
 use Rattle.folder_protocol.specs.Goes.{AreJoined, AreRemoved}
-use Rattle.folder_protocol.specs.Keeping.{AreKept}
+use Rattle.folder_protocol.specs.Keeping.{AreKept, AreReliedOn}
 use Rattle.folder_protocol.specs.Premises.{MayPut, MayRemove}
 use Rattle.folder_protocol.specs.Linking.{LinksOnly, LinksNone, WasSo, Watches, Each, One, HasEach}
 use Rattle.folder_protocol.specs.declared.putting.Outcome.{Outcome}
@@ -104,9 +104,41 @@ EndCause m ends.Kept before calls = Unit {0}
 abbrev pub Caused : {E : Type 0} → Matter → Result End E → List Call → List Call → Type 0
 Caused m result before calls = MatchResult result (λ end. EndCause m end before calls) (λ error. HasCall Fails before calls)
 
--- what is said once an order is followed: what the end of its task says, its cause, and when files were given names
+-- A part that relies on others is given its name only once each of these is kept, or gone.
+abbrev pub LinksOnceKept : Task → Matter → Parts → List Call → List Call → Type 0
+LinksOnceKept tasks.KeepAndPut m parts before calls = LinksOnly (AreKept parts m.relied before) before calls
+LinksOnceKept tasks.KeepAndPutJudged m parts before calls = LinksOnly (AreKept parts m.relied before) before calls
+LinksOnceKept task m parts before calls = Unit {0}
+
+-- A task may come to such an end.
+abbrev pub MayEnd : Task → End → Type 0
+MayEnd tasks.Put (ends.Came how) = Unit {0}
+MayEnd tasks.Keep (ends.Came how) = Unit {0}
+MayEnd tasks.Replace (ends.Came how) = Unit {0}
+MayEnd tasks.Replace ends.Overtaken = Unit {0}
+MayEnd tasks.Remove (ends.Came how) = Unit {0}
+MayEnd tasks.List (ends.Listed names) = Unit {0}
+MayEnd tasks.KeepAll ends.Kept = Unit {0}
+MayEnd tasks.PutJudged (ends.Came how) = Unit {0}
+MayEnd tasks.PutJudged ends.Unseen = Unit {0}
+MayEnd tasks.KeepAndPut (ends.Came how) = Unit {0}
+MayEnd tasks.KeepAndPutJudged (ends.Came how) = Unit {0}
+MayEnd tasks.KeepAndPutJudged ends.Unseen = Unit {0}
+MayEnd task end = ⊥
+
+-- What a task leaves: each part that it is to keep, or on which its part relies, and that was read before, is kept, or is gone and covered by another.
+abbrev pub LeavesSafe : {E : Type 0} → Task → Matter → Result End E → Parts → List Call → List Call → Type 0
+LeavesSafe tasks.KeepAll m result parts before calls = IfOk result (λ end. AreReliedOn parts m.names before calls)
+LeavesSafe tasks.KeepAndPut m result parts before calls = IfOk result (λ end. AreReliedOn parts m.relied before calls)
+LeavesSafe tasks.KeepAndPutJudged m result parts before calls = IfOk result (λ end. AreReliedOn parts m.relied before calls)
+LeavesSafe task m result parts before calls = Unit {0}
+
+-- what is said once an order is followed: what the end of its task says, its cause, when files were given names, that the task may come to it, and
+-- what it leaves
 abbrev pub EndSays : {E : Type 0} → Task → Matter → Result End E → Parts → List Call → List Call → Type 0
-EndSays task m result parts before calls = Says task m result parts before calls × Caused m result before calls × LinksInTask task m before calls
+EndSays task m result parts before calls =
+    Says task m result parts before calls × Caused m result before calls × LinksInTask task m before calls × LinksOnceKept task m parts before calls × IfOk result (λ end. MayEnd task end)
+    × LeavesSafe task m result parts before calls
 
 -- the end of a task that is about one part
 abbrev pub came : {E : Type 0} → Result Outcome E → Result End E

@@ -2,11 +2,11 @@
 //! code of `folder_protocol` itself, run from its beginning over the answers that were told.
 #![tactic(auto)]
 
+mod ahead;
 mod answering;
 mod asking;
 mod order;
 mod program;
-mod programs;
 mod replay;
 mod request;
 mod script;
@@ -19,7 +19,6 @@ mod wanted;
 pub use asking::next;
 pub use order::{End, Order, Task};
 pub use program::Program;
-pub use programs::{Keeping, Putting, Reading, Removing, Replacing};
 pub use replay::Fault;
 pub use request::{Answer, Request, Told};
 pub use step::Step;

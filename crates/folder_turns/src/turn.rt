@@ -8,6 +8,7 @@ ghost use Rattle.folder_turns.specs.Steps.{OnAsks, OnEnds};
 ghost use Rattle.folder_turns.specs.Straying.{IfStrayed};
 ghost use Rattle.folder_turns.specs.Turns.{AsksInTurn, EndsSaying, IsAstray, IsSame, asking, state_of};
 
+use crate::ahead::{ahead_of, reads_with};
 use crate::asking::next;
 use crate::order::{End, Order};
 use crate::replay::Fault;
@@ -24,6 +25,8 @@ pub struct Turn {
     pub told: Vec<Told>,
     pub asked: Option<Request>,
     pub listed: Vec<String>,
+    /// How many of the calls that were told are reads.
+    pub reads: usize,
 }
 
 impl Turn {
@@ -36,6 +39,7 @@ impl Turn {
             told: Vec::new(alloc),
             asked: None,
             listed: Vec::new(alloc),
+            reads: 0,
         }
     }
 
@@ -67,6 +71,11 @@ impl Turn {
         // It strays only if a run of the order does: it ended before it had made all calls that were told, or it made another one.
         ensures strays { IfStrayed result (IsAstray before (state_of self.new)) }
     {
+        let ahead = ahead_of(alloc, &self.order, self.told.as_slice(), self.reads)?;
+        if let Some(request) = ahead {
+            self.asked = Some(request);
+            return Ok(None);
+        }
         match self.step(alloc)? {
             Step::Asks(request) => {
                 self.asked = Some(request);
@@ -89,7 +98,10 @@ impl Turn {
         ensures listed { self.new.listed ≡ self.old.listed }
     {
         match self.asked.take() {
-            Some(request) => Ok(self.told.push(Told { request, answer })?),
+            Some(request) => {
+                self.reads = reads_with(self.reads, &request);
+                Ok(self.told.push(Told { request, answer })?)
+            }
             None => Ok(()),
         }
     }

@@ -50,7 +50,7 @@ returns-in-Ok-replace_read-clause-forgot g c =
     let read = subst (λ l. IsReadAs passed (map string_bytes l) (held c.in-Ok.read.held) mid) (sym c.as_slice.ensures.value) c.in-Ok.ensures.read in
     subst (λ l. LeavesForgotten passed (map string_bytes l) dropped name gone c.in-Ok-replace_read.done.outcome before after) c.as_slice.ensures.value
     (forgets_some passed (map string_bytes c.as_slice.result.now) (held c.in-Ok.read.held) c.in-Some.store.replica left.0 dropped c.as_slice-2.result.now name gone c.in-Ok-replace_read.done.outcome before mid after
-    (ap held c.in-Some.is) read forgot (c.as_slice-2.ensures.value ∙ written.0, written.1) c.read_folder.ensures.in_turn c.in-Ok-replace_read.ensures.replaces)
+    (ap held c.in-Some.is) read forgot (c.as_slice-2.ensures.value ∙ written.0, written.1) c.read_folder.ensures.in_turn c.read_folder.ensures.unlinked c.in-Ok-replace_read.ensures.replaces)
 
 pub returns-clause-in_turn : goal.returns-clause-in_turn
 returns-clause-in_turn g c = λ temp.

@@ -1,12 +1,14 @@
 -- One part after another is read and taken, or passed over.
-use Rattle.std.specs.Prelude.{◌+◌, List, [], ◌≡◌, true, false, map, take, filter, string_bytes}
+use Rattle.std.specs.Prelude.{◌+◌, ℕ, List, [], ◌≡◌, true, false, map, take, filter, string_bytes}
 use Rattle.std.proofs.Common.{sym, ap, subst, ◌∙◌, arith}
 use Rattle.folder_model.specs.Call.{Call}
 use Rattle.folder_model.specs.Turn.{listing_of}
 use Rattle.folder_protocol.specs.Goes.{GoesInTurn}
 use Rattle.folder_protocol.specs.Linking.{GoesPlainly}
+use Rattle.folder_protocol.specs.Sweeping.{RemovesOnly}
 use Rattle.folder_protocol.proofs.Lines.{joins}
 use Rattle.folder_protocol.proofs.Linking.{plain_more}
+use Rattle.folder_protocol.proofs.Removals.{removes_more}
 use Rattle.folder_protocol.proofs.TakeLines.{untaken_later}
 use Rattle.folder_parts.specs.Covers.{folder_parts}
 use Rattle.folder_parts.specs.declared.fault.PartRefusal.{PartRefusal}
@@ -61,6 +63,7 @@ loop-index-preserved g c =
           let passes : p (string_bytes c.index-listed-index.result) ≡ true = ap p (sym name) ∙ sym c.is_wanted.ensures ∙ w.if-is_wanted.true in
           record {
             plain = subst (λ (h : List Call). GoesPlainly before h) (sym still) (plain_more before mid after so.plain w.gather_one.ensures.plain);
+            unremoved = subst (λ (h : List Call). RemovesOnly (λ (name : List ℕ). ⊥) before h) (sym still) (removes_more (λ (name : List ℕ). ⊥) before mid after so.unremoved w.gather_one.ensures.unremoved);
             goes = subst (λ (h : List Call). GoesInTurn folder_parts before h) (sym still) (joins folder_parts before mid after so.goes w.gather_one.ensures.in_turn);
             listing = ap listing_of still ∙ w.gather_one.ensures.listing ∙ so.listing;
             few = let few = so.few in let more = w.count-is in omega (arith, few, more);
@@ -74,6 +77,7 @@ loop-index-preserved g c =
           let fails : p (string_bytes c.index-listed-index.result) ≡ false = ap p (sym name) ∙ sym c.is_wanted.ensures ∙ w.if-is_wanted.false in
           record {
             plain = subst (λ (h : List Call). GoesPlainly before h) (sym still) so.plain;
+            unremoved = subst (λ (h : List Call). RemovesOnly (λ (name : List ℕ). ⊥) before h) (sym still) so.unremoved;
             goes = subst (λ (h : List Call). GoesInTurn folder_parts before h) (sym still) so.goes;
             listing = ap listing_of still ∙ so.listing;
             few = let few = so.few in let same = w.count-is in omega (arith, few, same);
@@ -86,3 +90,6 @@ loop-index-preserved g c =
 
 pub returns-in-Err-clause-plain : goal.returns-in-Err-clause-plain
 returns-in-Err-clause-plain g c = plain_more _ _ _ c.loop-index.invariant.plain c.gather_one.ensures.plain
+
+pub returns-in-Err-clause-unremoved : goal.returns-in-Err-clause-unremoved
+returns-in-Err-clause-unremoved g c = removes_more (λ (name : List ℕ). ⊥) _ _ _ c.loop-index.invariant.unremoved c.gather_one.ensures.unremoved

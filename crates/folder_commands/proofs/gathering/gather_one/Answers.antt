@@ -1,10 +1,11 @@
 -- One call is made: the part is read.
-use Rattle.std.proofs.Common.{refl}
+use Rattle.std.proofs.Common.{refl, ℕ, List}
 use Rattle.folder_protocol.specs.Causes.{Fails, FindsNone}
 use Rattle.folder_protocol.proofs.Causing.{has_now}
 use Rattle.folder_protocol.proofs.Lines.{starts, goes_on}
 use Rattle.folder_protocol.proofs.Linking.{plain_none, plain_on}
 use Rattle.folder_protocol.proofs.ReadLines.{unopened}
+use Rattle.folder_protocol.proofs.Removals.{removes_none, removes_on}
 use Rattle.folder_parts.specs.Covers.{folder_parts}
 use Rattle.folder_commands.proofs.gathering.gather_one.Goals as goal
 
@@ -40,3 +41,15 @@ returns-in-Ok-None-clause-plain g c = plain_on _ _ _ _ (plain_none _) c.in-Ok-No
 
 pub returns-clause-plain : goal.returns-clause-plain
 returns-clause-plain g c = plain_on _ _ _ _ (plain_none _) c.in-Err.ensures tt
+
+pub returns-in-Ok-clause-unremoved : goal.returns-in-Ok-clause-unremoved
+returns-in-Ok-clause-unremoved g c = removes_on (λ (name : List ℕ). ⊥) _ _ _ _ (removes_none (λ (name : List ℕ). ⊥) _) c.in-Ok-Some.ensures tt
+
+pub returns-in-Ok-Some-clause-unremoved : goal.returns-in-Ok-Some-clause-unremoved
+returns-in-Ok-Some-clause-unremoved g c = removes_on (λ (name : List ℕ). ⊥) _ _ _ _ (removes_none (λ (name : List ℕ). ⊥) _) c.in-Ok-Some.ensures tt
+
+pub returns-in-Ok-None-clause-unremoved : goal.returns-in-Ok-None-clause-unremoved
+returns-in-Ok-None-clause-unremoved g c = removes_on (λ (name : List ℕ). ⊥) _ _ _ _ (removes_none (λ (name : List ℕ). ⊥) _) c.in-Ok-None.ensures tt
+
+pub returns-clause-unremoved : goal.returns-clause-unremoved
+returns-clause-unremoved g c = removes_on (λ (name : List ℕ). ⊥) _ _ _ _ (removes_none (λ (name : List ℕ). ⊥) _) c.in-Err.ensures tt

@@ -1,8 +1,9 @@
 -- The file of what was read covers each part that was.
-use Rattle.std.specs.Prelude.{[], Option, map, string_bytes, option_map}
+use Rattle.std.specs.Prelude.{List, [], Option, map, string_bytes, option_map}
 use Rattle.std.proofs.Common.{ap, ◌∙◌}
+use Rattle.folder_model.specs.Call.{Call}
 use Rattle.folder_protocol.proofs.Lines.{joins}
-use Rattle.folder_protocol.proofs.Linking.{plain_lock}
+use Rattle.folder_protocol.proofs.Linking.{plain_links, plain_lock}
 use Rattle.folder_protocol.proofs.TakeLines.{untaken_later}
 use Rattle.replica_store.specs.declared.store.Store.{Store}
 use Rattle.folder_parts.specs.Covers.{folder_parts}
@@ -26,7 +27,7 @@ returns-in-Ok-replace_read-clause-packed g c =
     let after = g.F.Folder.history c.replace_read.new.folder in
     packs (map string_bytes c.args.names.now) (held c.in-Ok-Some.field-0) c.in-Ok-Some.store.replica c.as_slice.result.now (string_bytes c.in-Ok-replace_read.done.name) (map string_bytes c.in-Ok-replace_read.done.gone.items)
     c.in-Ok-replace_read.done.outcome before mid after (ap held c.in-Ok-Some.field-0-is) c.in-Ok-Some.ensures.read (c.as_slice.ensures.value ∙ c.in-Ok.ensures.file, c.in-Ok.ensures.read)
-    c.read_named.ensures.in_turn c.in-Ok-replace_read.ensures.replaces
+    c.read_named.ensures.in_turn (plain_links (λ (l : List Call). ⊥) _ _ c.read_named.ensures.plain) c.in-Ok-replace_read.ensures.replaces
 
 pub returns-clause-in_turn : goal.returns-clause-in_turn
 returns-clause-in_turn g c = λ temp.

@@ -1,9 +1,11 @@
 -- The names are listed, and then read.
-use Rattle.std.specs.Prelude.{map, string_bytes}
+use Rattle.std.specs.Prelude.{ℕ, List, map, string_bytes}
 use Rattle.std.proofs.Common.{sym, ap, subst, ◌∙◌}
+use Rattle.folder_model.specs.Call.{Call}
 use Rattle.folder_model.specs.Turn.{Gave}
 use Rattle.folder_protocol.proofs.Lines.{joins}
-use Rattle.folder_protocol.proofs.Linking.{plain_lock}
+use Rattle.folder_protocol.proofs.Linking.{links_more, plain_links, plain_lock}
+use Rattle.folder_protocol.proofs.Removals.{removes_more}
 use Rattle.folder_protocol.proofs.TakeLines.{untaken_later}
 use Rattle.folder_parts.specs.Covers.{folder_parts}
 use Rattle.folder_parts.specs.declared.fault.PartRefusal.{PartRefusal}
@@ -50,3 +52,21 @@ returns-in-Ok-None-clause-unlocked g c = plain_lock _ _ c.join_named.ensures.pla
 
 pub returns-in-Err-join_named-clause-unlocked : goal.returns-in-Err-join_named-clause-unlocked
 returns-in-Err-join_named-clause-unlocked g c = plain_lock _ _ c.join_named.ensures.plain ∙ c.list_names.ensures.unlocked
+
+pub returns-in-Ok-Some-clause-unlinked : goal.returns-in-Ok-Some-clause-unlinked
+returns-in-Ok-Some-clause-unlinked g c = links_more (λ (l : List Call). ⊥) _ _ _ c.list_names.ensures.unlinked (plain_links (λ (l : List Call). ⊥) _ _ c.join_named.ensures.plain)
+
+pub returns-in-Ok-Some-clause-unremoved : goal.returns-in-Ok-Some-clause-unremoved
+returns-in-Ok-Some-clause-unremoved g c = removes_more (λ (name : List ℕ). ⊥) _ _ _ c.list_names.ensures.unremoved c.join_named.ensures.unremoved
+
+pub returns-in-Ok-None-clause-unlinked : goal.returns-in-Ok-None-clause-unlinked
+returns-in-Ok-None-clause-unlinked g c = links_more (λ (l : List Call). ⊥) _ _ _ c.list_names.ensures.unlinked (plain_links (λ (l : List Call). ⊥) _ _ c.join_named.ensures.plain)
+
+pub returns-in-Ok-None-clause-unremoved : goal.returns-in-Ok-None-clause-unremoved
+returns-in-Ok-None-clause-unremoved g c = removes_more (λ (name : List ℕ). ⊥) _ _ _ c.list_names.ensures.unremoved c.join_named.ensures.unremoved
+
+pub returns-in-Err-join_named-clause-unlinked : goal.returns-in-Err-join_named-clause-unlinked
+returns-in-Err-join_named-clause-unlinked g c = links_more (λ (l : List Call). ⊥) _ _ _ c.list_names.ensures.unlinked (plain_links (λ (l : List Call). ⊥) _ _ c.join_named.ensures.plain)
+
+pub returns-in-Err-join_named-clause-unremoved : goal.returns-in-Err-join_named-clause-unremoved
+returns-in-Err-join_named-clause-unremoved g c = removes_more (λ (name : List ℕ). ⊥) _ _ _ c.list_names.ensures.unremoved c.join_named.ensures.unremoved

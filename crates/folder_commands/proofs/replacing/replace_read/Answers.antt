@@ -3,6 +3,7 @@ use Rattle.std.specs.Prelude.{ℕ, List, map, filter, string_bytes, IfSome}
 use Rattle.std.proofs.Common.{sym, ap, subst, ◌∙◌}
 use Rattle.folder_protocol.specs.Causes.{Lacks, HasCall, LookCause}
 use Rattle.folder_protocol.specs.Goes.{AreRemoved}
+use Rattle.folder_protocol.specs.Linking.{LinksOnly, WasSo, Watches, HasEach, LacksOne}
 use Rattle.folder_parts.specs.Covers.{folder_parts}
 use Rattle.folder_commands.specs.Wanted.{goes}
 use Rattle.folder_commands.proofs.Replacings.{are_joined}
@@ -28,6 +29,13 @@ returns-in-Ok-replace-clause-replaces g c = record {
       c.as_str.ensures.value c.in-Ok-replace.ensures.cause;
   overtaken = λ none. subst (λ (l : List (List ℕ)). HasCall (Lacks l) (g.F.Folder.history c.args.folder.now) (g.F.Folder.history c.replace.new.folder))
       (ap (λ l. map string_bytes l) c.as_slice.ensures.value) (c.in-Ok-replace.ensures.overtaken none);
+  links = subst (λ (l : List (List ℕ)). LinksOnly (Watches (HasEach l)) (g.F.Folder.history c.args.folder.now) (g.F.Folder.history c.replace.new.folder))
+      (ap (λ l. map string_bytes l) c.as_slice.ensures.value) c.replace.ensures.links;
+  lacked = λ none. (
+    subst (λ (l : List (List ℕ)). WasSo (Watches (LacksOne l)) (g.F.Folder.history c.args.folder.now) (g.F.Folder.history c.replace.new.folder))
+        (ap (λ l. map string_bytes l) c.as_slice.ensures.value) (c.in-Ok-replace.ensures.lacked none),
+    c.in-Ok-replace.ensures.unlinked none,
+  );
 }
 
 pub returns-in-Err-replace-clause-in_turn : goal.returns-in-Err-replace-clause-in_turn

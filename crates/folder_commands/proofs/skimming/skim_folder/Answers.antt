@@ -1,8 +1,9 @@
 -- The names are listed, and then their parts are skimmed.
-use Rattle.std.specs.Prelude.{Option, Ok, IfSome, filter, map, string_bytes}
+use Rattle.std.specs.Prelude.{ℕ, List, Option, Ok, IfSome, filter, map, string_bytes}
 use Rattle.std.proofs.Common.{Global, String, Vec, sym, ap, subst, ◌∙◌}
 use Rattle.folder_model.specs.Turn.{Gave}
 use Rattle.folder_protocol.proofs.Lines.{joins}
+use Rattle.folder_protocol.proofs.Removals.{removes_more}
 use Rattle.folder_protocol.proofs.TakeLines.{untaken_later}
 use Rattle.folder_parts.specs.Covers.{folder_parts}
 use Rattle.folder_parts.specs.declared.fault.PartRefusal.{PartRefusal}
@@ -87,3 +88,12 @@ pub returns-in-Err-skim_named-clause-cause : goal.returns-in-Err-skim_named-clau
 returns-in-Err-skim_named-clause-cause g c =
     let lists = c.list_names.ensures.in_turn folder_parts in
     untaken_later c.in-Err-skim_named.fault _ _ _ (lists.0, lists.1) c.in-Err-skim_named.ensures.cause
+
+pub returns-in-Ok-Some-clause-unremoved : goal.returns-in-Ok-Some-clause-unremoved
+returns-in-Ok-Some-clause-unremoved g c = removes_more (λ (name : List ℕ). ⊥) _ _ _ c.list_names.ensures.unremoved c.skim_named.ensures.unremoved
+
+pub returns-in-Ok-None-clause-unremoved : goal.returns-in-Ok-None-clause-unremoved
+returns-in-Ok-None-clause-unremoved g c = removes_more (λ (name : List ℕ). ⊥) _ _ _ c.list_names.ensures.unremoved c.skim_named.ensures.unremoved
+
+pub returns-in-Err-skim_named-clause-unremoved : goal.returns-in-Err-skim_named-clause-unremoved
+returns-in-Err-skim_named-clause-unremoved g c = removes_more (λ (name : List ℕ). ⊥) _ _ _ c.list_names.ensures.unremoved c.skim_named.ensures.unremoved

@@ -3,7 +3,8 @@ use Rattle.folder_model.specs.Call.{Call, Done, Taken, lock_of}
 use Rattle.folder_protocol.specs.Causes.{Fails, FailsToSync, AnswersLink}
 use Rattle.folder_protocol.proofs.Causing.{follows_none, follows_on, has_now, has_later, has_before, looks_later, fails_later, all_named, parts_without}
 use Rattle.folder_protocol.proofs.Lines.{starts, goes_on, joins, settles_on}
-use Rattle.folder_protocol.proofs.Linking.{plain_lock, plain_links, links_none, links_on, links_more}
+use Rattle.folder_protocol.proofs.Linking.{plain_follows, plain_lock, plain_links, links_none, links_on, links_more}
+use Rattle.folder_protocol.specs.Sweeping.{Tries}
 use Rattle.folder_protocol.proofs.putting.place.Goals as goal
 
 pub returns-in-Ok-clause-in_turn : goal.returns-in-Ok-clause-in_turn
@@ -87,3 +88,23 @@ returns-in-Ok-false-clause-locks g c = plain_lock _ _ c.keep.ensures.plain ∙ a
 
 pub returns-in-Err-clause-locks : goal.returns-in-Err-clause-locks
 returns-in-Err-clause-locks g c = ap lock_of c.remove.ensures ∙ ap lock_of c.in-Err.ensures
+
+pub returns-in-Ok-clause-cleaned : goal.returns-in-Ok-clause-cleaned
+returns-in-Ok-clause-cleaned g c =
+    let T = Tries c.args.temporary.now in
+    has_later T _ _ _ (follows_on _ _ _ _ (follows_none _) c.in-Ok-true.ensures) (has_before T _ _ _ (follows_on _ _ _ _ (follows_none _) c.settle.ensures.noted) (has_now T _ _ _ c.remove.ensures refl))
+
+pub returns-in-Err-settle-clause-cleaned : goal.returns-in-Err-settle-clause-cleaned
+returns-in-Err-settle-clause-cleaned g c =
+    let T = Tries c.args.temporary.now in
+    has_later T _ _ _ (follows_on _ _ _ _ (follows_none _) c.in-Ok-true.ensures) (has_before T _ _ _ (follows_on _ _ _ _ (follows_none _) c.settle.ensures.noted) (has_now T _ _ _ c.remove.ensures refl))
+
+pub returns-in-Ok-false-clause-cleaned : goal.returns-in-Ok-false-clause-cleaned
+returns-in-Ok-false-clause-cleaned g c =
+    let T = Tries c.args.temporary.now in
+    has_later T _ _ _ (follows_on _ _ _ _ (follows_none _) c.in-Ok-false.ensures) (has_before T _ _ _ (plain_follows _ _ c.keep.ensures.plain) (has_now T _ _ _ c.remove.ensures refl))
+
+pub returns-in-Err-clause-cleaned : goal.returns-in-Err-clause-cleaned
+returns-in-Err-clause-cleaned g c =
+    let T = Tries c.args.temporary.now in
+    has_later T _ _ _ (follows_on _ _ _ _ (follows_none _) c.in-Err.ensures) (has_before T _ _ _ (follows_none _) (has_now T _ _ _ c.remove.ensures refl))

@@ -1,9 +1,10 @@
-use Rattle.std.proofs.Common.{inl, ap, ◌∙◌}
+use Rattle.std.proofs.Common.{inl, refl, ap, ◌∙◌}
 use Rattle.folder_protocol.specs.Causes.{Fails}
-use Rattle.folder_protocol.proofs.Causing.{follows_none, follows_on, has_before, looks_later, fails_later, all_named_later, parts_without, no_part_of}
+use Rattle.folder_protocol.proofs.Causing.{follows_none, follows_on, has_now, has_later, has_before, looks_later, fails_later, all_named_later, parts_without, no_part_of}
 use Rattle.folder_protocol.proofs.Lines.{goes_on, joins}
 use Rattle.folder_model.specs.Call.{lock_of}
-use Rattle.folder_protocol.proofs.Linking.{plain_lock}
+use Rattle.folder_protocol.proofs.Linking.{plain_follows, plain_lock}
+use Rattle.folder_protocol.specs.Sweeping.{Tries}
 use Rattle.folder_protocol.proofs.putting.put.Goals as goal
 
 pub returns-in-Ok-clause-in_turn : goal.returns-in-Ok-clause-in_turn
@@ -36,3 +37,11 @@ returns-in-Ok-clause-locks g c = c.place.ensures.locks ∙ plain_lock _ _ c.in-O
 
 pub returns-in-Err-clause-locks : goal.returns-in-Err-clause-locks
 returns-in-Err-clause-locks g c = ap lock_of c.remove.ensures ∙ plain_lock _ _ c.in-Err.ensures.plain
+
+pub returns-in-Ok-clause-cleaned : goal.returns-in-Ok-clause-cleaned
+returns-in-Ok-clause-cleaned g c = has_later (Tries c.args.temporary.now) _ _ _ (plain_follows _ _ c.in-Ok.ensures.plain) c.place.ensures.cleaned
+
+pub returns-in-Err-clause-cleaned : goal.returns-in-Err-clause-cleaned
+returns-in-Err-clause-cleaned g c =
+    let T = Tries c.args.temporary.now in
+    has_later T _ _ _ (plain_follows _ _ c.in-Err.ensures.plain) (has_now T _ _ _ c.remove.ensures refl)

@@ -6,7 +6,8 @@ use Rattle.folder_protocol.proofs.Causing.{fails_later, follows_none, looked_lat
 use Rattle.folder_protocol.proofs.Lines.{joins}
 use Rattle.folder_protocol.proofs.Linking.{plain_follows, plain_lock, plain_links, links_none, links_more, all_links_between, all_was_between, some_was_between}
 use Rattle.folder_protocol.specs.Linking.{Watches, Each, One}
-use Rattle.folder_protocol.proofs.Kept.{any_parts, kept_later, on_ok}
+use Rattle.folder_protocol.proofs.Kept.{any_parts, kept_first, kept_later, on_ok, relied_later}
+use Rattle.folder_protocol.specs.Keeping.{AreKept}
 use Rattle.folder_protocol.proofs.relying.keep_and_put_judged.Goals as goal
 
 pub returns-clause-in_turn : goal.returns-clause-in_turn
@@ -57,3 +58,17 @@ returns-in_err-keep_relied-clause-unlocked g c = λ none. plain_lock _ _ c.keep_
 
 pub returns-clause-unlocked : goal.returns-clause-unlocked
 returns-clause-unlocked g c = λ none. c.put_judged.ensures.unlocked (plain_lock _ _ c.keep_relied.ensures.plain ∙ none)
+
+pub returns-clause-safe : goal.returns-clause-safe
+returns-clause-safe g c = λ parts may.
+    let puts = c.put_judged.ensures.in_turn parts may in
+    on_ok c.put_judged.result (relied_later parts (map string_bytes c.args.relied.now) (g.F.Folder.history c.args.folder.now) _ _ (puts.0, puts.1) (c.in_ok-keep_relied.ensures.safe parts))
+
+pub returns-in_err-keep_relied-clause-first : goal.returns-in_err-keep_relied-clause-first
+returns-in_err-keep_relied-clause-first g c = λ parts may. plain_links (AreKept parts (map string_bytes c.args.relied.now) _) _ _ c.keep_relied.ensures.plain
+
+pub returns-clause-first : goal.returns-clause-first
+returns-clause-first g c = λ parts may.
+    let puts = c.put_judged.ensures.in_turn parts may in
+    let P = AreKept parts (map string_bytes c.args.relied.now) (g.F.Folder.history c.args.folder.now) in
+    links_more P _ _ _ (plain_links P _ _ c.keep_relied.ensures.plain) (kept_first parts (map string_bytes c.args.relied.now) _ _ _ (puts.0, puts.1) (c.in_ok-keep_relied.ensures.kept parts))

@@ -49,7 +49,7 @@ returns-in-KeepAll-clause-said g c = λ parts.
     let m : Matter = record { temporary = c.as_str-temporary.result.now; name = c.as_str-name.result.now; bytes = c.as_slice-bytes.result.now; names = map string_bytes c.as_slice-names.result.now; relied = map string_bytes c.as_slice-relied.result.now } in
     of_task (matter_of c.args.self.now) parts (g.F.Folder.history c.args.folder.now) (g.F.Folder.history c.keep_all.new.folder) c.args.self.now.task tasks.KeepAll c.kept.result _ m c.in-KeepAll.is c.kept.ensures
     (same_matter (matter_of c.args.self.now) m.temporary m.name m.bytes m.names m.relied c.as_str-temporary.ensures.value c.as_str-name.ensures.value c.as_slice-bytes.ensures.value (ap (map string_bytes) c.as_slice-names.ensures.value) (ap (map string_bytes) c.as_slice-relied.ensures.value))
-    (λ may. kept_says m parts (g.F.Folder.history c.args.folder.now) (g.F.Folder.history c.keep_all.new.folder) c.keep_all.result (c.keep_all.ensures.kept parts) c.keep_all.ensures.fails (plain_links (λ (l : List Call). ⊥) _ _ c.keep_all.ensures.plain))
+    (λ may. kept_says m parts (g.F.Folder.history c.args.folder.now) (g.F.Folder.history c.keep_all.new.folder) c.keep_all.result (c.keep_all.ensures.kept parts) c.keep_all.ensures.fails (plain_links (λ (l : List Call). ⊥) _ _ c.keep_all.ensures.plain) (c.keep_all.ensures.safe parts))
 
 pub returns-in-PutJudged-clause-said : goal.returns-in-PutJudged-clause-said
 returns-in-PutJudged-clause-said g c = λ parts.
@@ -63,11 +63,11 @@ returns-in-KeepAndPut-clause-said g c = λ parts.
     let m : Matter = record { temporary = c.as_str-temporary.result.now; name = c.as_str-name.result.now; bytes = c.as_slice-bytes.result.now; names = map string_bytes c.as_slice-names.result.now; relied = map string_bytes c.as_slice-relied.result.now } in
     of_task (matter_of c.args.self.now) parts (g.F.Folder.history c.args.folder.now) (g.F.Folder.history c.keep_and_put.new.folder) c.args.self.now.task tasks.KeepAndPut c.came-in-KeepAndPut.result _ m c.in-KeepAndPut.is c.came-in-KeepAndPut.ensures
     (same_matter (matter_of c.args.self.now) m.temporary m.name m.bytes m.names m.relied c.as_str-temporary.ensures.value c.as_str-name.ensures.value c.as_slice-bytes.ensures.value (ap (map string_bytes) c.as_slice-names.ensures.value) (ap (map string_bytes) c.as_slice-relied.ensures.value))
-    (λ may. keeping_says m parts (g.F.Folder.history c.args.folder.now) (g.F.Folder.history c.keep_and_put.new.folder) c.keep_and_put.result (c.keep_and_put.ensures.kept parts may.1) (c.keep_and_put.ensures.stored parts may.1.0) c.keep_and_put.ensures.cause c.keep_and_put.ensures.fails)
+    (λ may. keeping_says m parts (g.F.Folder.history c.args.folder.now) (g.F.Folder.history c.keep_and_put.new.folder) c.keep_and_put.result (c.keep_and_put.ensures.kept parts may.1) (c.keep_and_put.ensures.stored parts may.1.0) c.keep_and_put.ensures.cause c.keep_and_put.ensures.fails (c.keep_and_put.ensures.first parts may.1) (c.keep_and_put.ensures.safe parts may.1))
 
 pub returns-in-KeepAndPutJudged-clause-said : goal.returns-in-KeepAndPutJudged-clause-said
 returns-in-KeepAndPutJudged-clause-said g c = λ parts.
     let m : Matter = record { temporary = c.as_str-temporary.result.now; name = c.as_str-name.result.now; bytes = c.as_slice-bytes.result.now; names = map string_bytes c.as_slice-names.result.now; relied = map string_bytes c.as_slice-relied.result.now } in
     of_task (matter_of c.args.self.now) parts (g.F.Folder.history c.args.folder.now) (g.F.Folder.history c.keep_and_put_judged.new.folder) c.args.self.now.task tasks.KeepAndPutJudged c.judged-in-KeepAndPutJudged.result _ m c.in-KeepAndPutJudged.is c.judged-in-KeepAndPutJudged.ensures
     (same_matter (matter_of c.args.self.now) m.temporary m.name m.bytes m.names m.relied c.as_str-temporary.ensures.value c.as_str-name.ensures.value c.as_slice-bytes.ensures.value (ap (map string_bytes) c.as_slice-names.ensures.value) (ap (map string_bytes) c.as_slice-relied.ensures.value))
-    (λ may. relying_says m parts (g.F.Folder.history c.args.folder.now) (g.F.Folder.history c.keep_and_put_judged.new.folder) c.keep_and_put_judged.result (c.keep_and_put_judged.ensures.kept parts may.1) (c.keep_and_put_judged.ensures.stored parts may.1) c.keep_and_put_judged.ensures.watched c.keep_and_put_judged.ensures.cause c.keep_and_put_judged.ensures.wanted c.keep_and_put_judged.ensures.fails c.keep_and_put_judged.ensures.links)
+    (λ may. relying_says m parts (g.F.Folder.history c.args.folder.now) (g.F.Folder.history c.keep_and_put_judged.new.folder) c.keep_and_put_judged.result (c.keep_and_put_judged.ensures.kept parts may.1) (c.keep_and_put_judged.ensures.stored parts may.1) c.keep_and_put_judged.ensures.watched c.keep_and_put_judged.ensures.cause c.keep_and_put_judged.ensures.wanted c.keep_and_put_judged.ensures.fails c.keep_and_put_judged.ensures.links (c.keep_and_put_judged.ensures.first parts may.1) (c.keep_and_put_judged.ensures.safe parts may.1))

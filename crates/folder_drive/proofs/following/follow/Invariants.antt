@@ -1,0 +1,4 @@
+use Rattle.folder_drive.proofs.following.follow.Given as goal
+
+abbrev pub ghost-go_on : goal.ghost-go_on
+ghost-go_on g a = g.before
