@@ -57,7 +57,7 @@ kept values (running.Count count) few small h = tally_is _ _ (h few) refl refl r
 kept values (running.Sum sums) few small h = tally_is _ _ (h few small).count (h few small).sum refl refl refl
 kept values (running.Extreme Least value) few small h = tally_is _ _ refl refl h refl refl
 kept values (running.Extreme Greatest value) few small h = tally_is _ _ refl refl refl h refl
-kept values (running.Distinct seen) few small h = tally_is _ _ refl refl refl refl (same_members seen.value values h)
+kept values (running.Distinct seen) few small h = tally_is _ _ refl refl refl refl (same_members seen.value.values values h)
 
 one : (table : Table) (rows : List Cells) (a : Aggregate) (t : Running) → AreFew table rows → IsHeld rows a t → told t ≡ tally_of rows a
 one table rows a t few h =

@@ -50,7 +50,7 @@ held_kinds rows (a ∷ rest) (c ∷ cs) t place h =
     let others = held_kinds rows rest cs t place (record { size = omega (arith, h.size); within = λ i d l. h.within (suc i) d (omega (arith, l)); each = λ i b d u l. h.each (suc i) b d u (omega (arith, l)) }) in
     λ i. first i ∷ others i
 
-pub groups_of_kinds : (plan : PlanShape) (rows : List Cells) (groups : Groups) → AreGroupsOf plan rows groups → AreOfKinds (each measure_kind plan.aggregates) groups.places.index groups.tallies.items
+pub groups_of_kinds : (plan : PlanShape) (rows : List Cells) (groups : Groups) → AreGroupsOf plan rows groups → AreOfKinds (each measure_kind plan.aggregates) groups.places.index.entries groups.tallies.items
 groups_of_kinds plan rows groups h = λ key place t at. held_kinds _ plan.aggregates groups.tallies.items t place (h.held key place at)
 
 -- keys that occur have a cell for each grouping column
@@ -81,7 +81,7 @@ whole_shape plan rows made ts none h is keep = record {
 }
 
 pub groups_shape : (plan : PlanShape) (rows : List Cells) (made : KeptGroups) (groups : Groups) (t : Running) → 1 ≤ length plan.grouping → AreGroupsOf plan rows groups
-    → ((k : Cells) → tallies_at made k ≡ told_places groups.tallies.items t (place_in groups.places.index k)) → AllKeep (each measure_kind plan.aggregates) made → FitPlan plan made
+    → ((k : Cells) → tallies_at made k ≡ told_places groups.tallies.items t (place_in groups.places.index.entries k)) → AllKeep (each measure_kind plan.aggregates) made → FitPlan plan made
 groups_shape plan rows made groups t some h is keep = record {
   groups = λ k kept at. (keyed_length plan.grouping rows k (sym (h.occurs k) ∙ place_there groups.tallies.items t _ _ (sym (ap tallies_of_some at) ∙ is k)), keep k kept at);
   whole = λ e gone. absurd (omega (arith, ap length e, some));

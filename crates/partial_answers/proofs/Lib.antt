@@ -12,6 +12,7 @@ pub mod TakenPartialAnswers
 pub mod KeptKinds
 pub mod GroupShapes
 pub mod BothShapes
+pub mod ShownOnce
 pub mod ShownGroups
 pub mod SharedNames
 pub mod RisingSets

@@ -18,6 +18,7 @@ use Rattle.table_model.specs.Meaning.{item_text}
 use Rattle.table_model.specs.Query.{QueryShape}
 use Rattle.table_model.specs.Table.{Table}
 use Rattle.query_eval.specs.Finished.{GroupFields, PlanShape, groups_kept, plan_of, seen_items}
+use Rattle.query_eval.specs.Once.{aggregates_once, functions_once}
 use Rattle.query_eval.specs.declared.tallies.aggregate.Aggregate.{Aggregate}
 use Rattle.partial_answers.specs.Groups.{partial_answer_in, shown_entry, shown_entries}
 use Rattle.partial_answers.specs.Measures.{measures_of}
@@ -25,6 +26,7 @@ use Rattle.partial_answers.specs.PartialAnswer.{finish, shown}
 use Rattle.partial_answers.specs.declared.kept.Kept.{Kept}
 use Rattle.partial_answers.proofs.Combined.{same_partial_answers}
 use Rattle.partial_answers.proofs.PartialAnswerIn.{as_tallies}
+use Rattle.partial_answers.proofs.ShownOnce.{shown_once}
 
 pub empty : {X : Type 0} (xs : List X) → length xs ≡ 0 → xs ≡ []
 empty [] e = refl
@@ -66,16 +68,19 @@ pub shown_partial_answer : (aggregates : List Aggregate) (m : BTreeMap Cells (Ve
 shown_partial_answer aggregates m up = shown_same aggregates m.entries ∙ sym (ap (map (shown aggregates)) (entries-partial_answer_in m up))
 
 -- the answer of the groups that are shown is that of the partial answer
-pub finish_is : (table : Table) (query : QueryShape) (plan : PlanShape) (measures asked aggregates : List Aggregate) (m : BTreeMap Cells (Vec Kept)) (groups : List GroupFields) (answer : AnswerParts)
-    → plan ≡ plan_of table.columns query → asked ≡ plan.aggregates → aggregates ≡ plan.aggregates → measures ≡ measures_of asked → IsOrdered key_cmp m → groups ≡ shown_entries measures aggregates m.entries
+pub finish_is : (table : Table) (query : QueryShape) (whole plan : PlanShape) (measures asked aggregates : List Aggregate) (m : BTreeMap Cells (Vec Kept)) (groups : List GroupFields) (answer : AnswerParts)
+    → whole ≡ plan_of table.columns query → asked ≡ whole.aggregates → plan ≡ functions_once whole → aggregates ≡ plan.aggregates → measures ≡ measures_of asked → IsOrdered key_cmp m → groups ≡ shown_entries measures aggregates m.entries
     → answer.heading ≡ map item_text query.items → answer.rows ≡ map (seen_items table.columns plan query.items) (groups_kept table.columns plan query.having groups) → answer ≡ finish table query (partial_answer_in m)
 unfolding finish
-finish_is table query plan measures asked aggregates m groups answer e first second ms up is heading rows =
-    let one : List Aggregate = (plan_of table.columns query).aggregates in
-    let asked_is : asked ≡ one = first ∙ ap (λ (p : PlanShape). p.aggregates) e in
-    let aggregates_is : aggregates ≡ one = second ∙ ap (λ (p : PlanShape). p.aggregates) e in
-    let given = is ∙ ap (λ (l : List Aggregate). shown_entries l aggregates m.entries) ms ∙ (λ i. shown_entries (measures_of (asked_is i)) (aggregates_is i) m.entries) ∙ shown_partial_answer one m up in
+finish_is table query whole plan measures asked aggregates m groups answer e first o second ms up is heading rows =
+    let all = plan_of table.columns query in
+    let asked_is : asked ≡ all.aggregates = first ∙ ap (λ (p : PlanShape). p.aggregates) e in
+    let plan_is : plan ≡ functions_once all = o ∙ ap functions_once e in
+    let aggregates_is : aggregates ≡ aggregates_once all.aggregates = second ∙ ap (λ (p : PlanShape). p.aggregates) plan_is in
+    let given = is ∙ ap (λ (l : List Aggregate). shown_entries l aggregates m.entries) ms ∙ (λ i. shown_entries (measures_of (asked_is i)) (aggregates_is i) m.entries) in
     let kept = rows
-    ∙ ap (λ (p : PlanShape). map (seen_items table.columns p query.items) (groups_kept table.columns p query.having groups)) e
-    ∙ ap (λ (gs : List GroupFields). map (seen_items table.columns (plan_of table.columns query) query.items) (groups_kept table.columns (plan_of table.columns query) query.having gs)) given in
+    ∙ ap (λ (p : PlanShape). map (seen_items table.columns p query.items) (groups_kept table.columns p query.having groups)) plan_is
+    ∙ ap (λ (gs : List GroupFields). map (seen_items table.columns (functions_once all) query.items) (groups_kept table.columns (functions_once all) query.having gs)) given
+    ∙ shown_once table.columns query (measures_of all.aggregates) m.entries
+    ∙ ap (λ (gs : List GroupFields). map (seen_items table.columns all query.items) (groups_kept table.columns all query.having gs)) (shown_partial_answer all.aggregates m up) in
     λ i. record { heading = heading i; rows = kept i }

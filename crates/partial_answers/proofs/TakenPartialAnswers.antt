@@ -61,12 +61,12 @@ keyed_told table [] rows aggregates index columns t k some few h = absurd (omega
 keyed_told table (column ∷ by) rows aggregates index columns t k some few h = at_keys table column by rows aggregates index columns t k (place_in index k) few h refl
 
 pub groups_told : (table : Table) (plan : PlanShape) (rows : List Cells) (made : BTreeMap Cells (Vec Kept)) (groups : Groups) (t : Running) → 1 ≤ length plan.grouping → AreFew table rows → AreGroupsOf plan rows groups
-    → ((k : Cells) → tallies_at made k ≡ told_places groups.tallies.items t (place_in groups.places.index k)) → partial_answer_in made ≡ partial_answer_over plan rows
+    → ((k : Cells) → tallies_at made k ≡ told_places groups.tallies.items t (place_in groups.places.index.entries k)) → partial_answer_in made ≡ partial_answer_over plan rows
 groups_told table plan rows made groups t some few h is = same_partial_answers _ _ (λ k.
-    get-partial_answer_in made k ∙ is k ∙ keyed_told table plan.grouping rows plan.aggregates groups.places.index groups.tallies.items t k some few h ∙ sym (get-partial plan rows k))
+    get-partial_answer_in made k ∙ is k ∙ keyed_told table plan.grouping rows plan.aggregates groups.places.index.entries groups.tallies.items t k some few h ∙ sym (get-partial plan rows k))
 
 -- each place is within each column
-pub within_told : (plan : PlanShape) (rows : List Cells) (groups : Groups) → AreGroupsOf plan rows groups → AreWithin groups.places.index groups.tallies.items
+pub within_told : (plan : PlanShape) (rows : List Cells) (groups : Groups) → AreGroupsOf plan rows groups → AreWithin groups.places.index.entries groups.tallies.items
 within_told plan rows groups h = λ key place is i c lt. (h.held key place is).within i c (omega (arith, lt, h.size))
 
 -- entries that give each key the place that it has in an index tell what the index does, with the same columns

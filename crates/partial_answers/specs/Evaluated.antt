@@ -24,7 +24,7 @@ told (running.Count count) = record { count = count; sum = pos 0; lowest = None;
 told (running.Sum sums) = record { count = sums.count; sum = sums.sum; lowest = None; highest = None; seen = map.empty }
 told (running.Extreme Least value) = record { count = 0; sum = pos 0; lowest = value; highest = None; seen = map.empty }
 told (running.Extreme Greatest value) = record { count = 0; sum = pos 0; lowest = None; highest = value; seen = map.empty }
-told (running.Distinct seen) = record { count = 0; sum = pos 0; lowest = None; highest = None; seen = set_of seen.value }
+told (running.Distinct seen) = record { count = 0; sum = pos 0; lowest = None; highest = None; seen = set_of seen.value.values }
 
 -- the tallies at a place, one of each column of tallies
 abbrev pub told_at : List (Vec Running) → Running → ℕ → Tallies

@@ -225,8 +225,9 @@ pub(crate) fn finish_groups(
     if columns == 0 && groups.is_empty() {
         return Err(PartialAnswerFault::QueryDiffers);
     }
-    let plan = Plan::of(alloc, schema, query)?;
-    let measures = measures_of(alloc, plan.aggregates())?;
+    let asked = Plan::of(alloc, schema, query)?;
+    let measures = measures_of(alloc, asked.aggregates())?;
+    let plan = asked.functions_once(alloc)?;
     let mut rest = groups;
     let all = finished(
         alloc,

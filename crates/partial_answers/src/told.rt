@@ -105,8 +105,8 @@ fn groups_at(
 
 /// The groups with what is kept of a query with GROUP BY.
 fn of_groups(alloc: Global, groups: Groups) -> Result<BTreeMap<Key, Vec<Kept>>, AllocError>
-    ensures value { IfOk result (λ made. (t : Running) → AreWithin groups.places.index groups.tallies.items → (k : Cells) → tallies_at made k ≡ told_places groups.tallies.items t (place_in groups.places.index k)) }
-    ensures kinds { IfOk result (λ made. (kinds : List ℕ) → AreWithin groups.places.index groups.tallies.items → AreOfKinds kinds groups.places.index groups.tallies.items → AllKeep kinds made) }
+    ensures value { IfOk result (λ made. (t : Running) → AreWithin groups.places.index.entries groups.tallies.items → (k : Cells) → tallies_at made k ≡ told_places groups.tallies.items t (place_in groups.places.index.entries k)) }
+    ensures kinds { IfOk result (λ made. (kinds : List ℕ) → AreWithin groups.places.index.entries groups.tallies.items → AreOfKinds kinds groups.places.index.entries groups.tallies.items → AllKeep kinds made) }
 {
     let entries = groups.places.into_entries(alloc)?;
     let made = groups_at(alloc, entries, groups.tallies.as_slice())?;

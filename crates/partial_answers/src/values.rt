@@ -38,7 +38,7 @@ impl Values {
 
     /// The values that the evaluator has seen of a group under DISTINCT.
     pub fn of_seen(alloc: Global, seen: &Seen) -> Result<Values, AllocError>
-        ensures { IfOk result (λ values. (z : ℤ) → list_any (int_eq z) values ≡ list_any (int_eq z) seen.now) }
+        ensures { IfOk result (λ values. (z : ℤ) → list_any (int_eq z) values ≡ list_any (int_eq z) seen.now.values) }
     {
         let items = sorted_values(alloc, seen)?;
         Ok(Values { items })
@@ -64,7 +64,7 @@ impl Values {
 
 /// The values that the evaluator has seen, in ascending order.
 fn sorted_values(alloc: Global, seen: &Seen) -> Result<Vec<i64>, AllocError>
-    ensures values { IfOk result (λ values. (z : ℤ) → list_any (int_eq z) values.items ≡ list_any (int_eq z) seen.now) }
+    ensures values { IfOk result (λ values. (z : ℤ) → list_any (int_eq z) values.items ≡ list_any (int_eq z) seen.now.values) }
     ensures rising { IfOk result (λ values. IsStrictlySortedBy int_cmp values.items) }
 {
     let mut values = seen.values(alloc)?;

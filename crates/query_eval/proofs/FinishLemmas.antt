@@ -59,7 +59,7 @@ at_or_later F a b true fields n is later = ap F (sym (one_aggregate a b is))
 at_or_later F a b false fields n is later = let next : 1 + n ≡ suc n = omega arith in ap (λ k. slice_index_or (F b ∷ fields) k Null) next ∙ later refl
 
 -- the field of an aggregate that was asked for
-field_found : (F : Aggregate → Field) (a : Aggregate) (asked : List Aggregate) → list_any (same_aggregate a) asked ≡ true → slice_index_or (map F asked) (position_or_len (same_aggregate a) asked) Null ≡ F a
+pub field_found : (F : Aggregate → Field) (a : Aggregate) (asked : List Aggregate) → list_any (same_aggregate a) asked ≡ true → slice_index_or (map F asked) (position_or_len (same_aggregate a) asked) Null ≡ F a
 field_found F a [] h = absurd (false≢true h)
 field_found F a (b ∷ bs) h =
     at_or_later F a b (same_aggregate a b) (map F bs) (position_or_len (same_aggregate a) bs) refl
@@ -71,36 +71,23 @@ value_of columns (Of fold distinct column) rows = refl
 
 module _ (columns : List ColumnShape) (plan : PlanShape) where
   -- each set function was asked for
-  abbrev AreNamed : List SetFunction → Type 0
+  abbrev pub AreNamed : List SetFunction → Type 0
   AreNamed [] = Unit {0}
   AreNamed (f ∷ fs) = (list_any (same_aggregate (aggregate_of columns f)) plan.aggregates ≡ true) × AreNamed fs
 
-  all_named : (fs : List SetFunction) → ((a : Aggregate) → list_any (same_aggregate a) (map (aggregate_of columns) fs) ≡ true → list_any (same_aggregate a) plan.aggregates ≡ true) → AreNamed fs
+  pub all_named : (fs : List SetFunction) → ((a : Aggregate) → list_any (same_aggregate a) (map (aggregate_of columns) fs) ≡ true → list_any (same_aggregate a) plan.aggregates ≡ true) → AreNamed fs
   all_named [] h = tt
   all_named (f ∷ fs) h =
       let a = aggregate_of columns f in
       let here = ap (λ b. b || list_any (same_aggregate a) (map (aggregate_of columns) fs)) (itself_aggregate a) in
       (h a here, all_named fs (λ b e. h b (or_right (same_aggregate b a) _ e)))
 
-  parted : (fs gs : List SetFunction) → AreNamed (fs ++ gs) → AreNamed fs × AreNamed gs
+  pub parted : (fs gs : List SetFunction) → AreNamed (fs ++ gs) → AreNamed fs × AreNamed gs
   parted [] gs h = (tt, h)
   parted (f ∷ fs) gs h = let rest = parted fs gs h.1 in ((h.0, rest.0), rest.1)
 
-  module _ (group : Group) where
-    abbrev seen : Operand → Field
-    seen = seen_operand columns plan (finished_of plan.aggregates group)
-
-    abbrev meant : Operand → Field
-    meant = at_group columns plan.grouping group
-
-    function_seen : (f : SetFunction) → list_any (same_aggregate (aggregate_of columns f)) plan.aggregates ≡ true → seen_aggregate plan (finished_of plan.aggregates group) (aggregate_of columns f) ≡ function_value columns f group.rows
-    function_seen f h = field_found (λ a. aggregate_value a group.rows) (aggregate_of columns f) plan.aggregates h ∙ value_of columns f group.rows
-
-    operand_seen : (o : Operand) → AreNamed (operand_functions o) → seen o ≡ meant o
-    operand_seen (Column column) h = refl
-    operand_seen (Literal n) h = refl
-    operand_seen (Function f) h = function_seen f h.0
-
+  -- operands that are seen as they are meant, if their set functions were asked for
+  module _ (seen meant : Operand → Field) (operand_seen : (o : Operand) → AreNamed (operand_functions o) → seen o ≡ meant o) where
     predicate_seen : (p : Predicate) → AreNamed (predicate_functions p) → predicate_truth seen p ≡ predicate_truth meant p
     predicate_seen (Compare left op right) h =
         let parts = parted (operand_functions left) (operand_functions right) h in
@@ -135,23 +122,45 @@ module _ (columns : List ColumnShape) (plan : PlanShape) where
         let b = condition_seen g parts.1 in
         λ i. or_of (a i) (b i)
 
-    kept_seen : (having : Option Formula) → AreNamed (having_functions having) → is_kept having seen ≡ is_kept having meant
-    kept_seen None h = refl
-    kept_seen (Some condition) h = ap is_true (condition_seen condition h)
+    pub kept_alike : (having : Option Formula) → AreNamed (having_functions having) → is_kept having seen ≡ is_kept having meant
+    kept_alike None h = refl
+    kept_alike (Some condition) h = ap is_true (condition_seen condition h)
+
+  -- values of items that are seen as they are meant, if their set functions were asked for
+  pub items_alike : (seen meant : ItemValue → Field) → ((item : ItemValue) → AreNamed (item_functions item) → seen item ≡ meant item) → (items : List Item) → AreNamed (flat_map (λ item. item_functions item.value) items) → map (λ item. seen item.value) items ≡ map (λ item. meant item.value) items
+  items_alike seen meant each [] h = refl
+  items_alike seen meant each (item ∷ items) h =
+      let parts = parted (item_functions item.value) (flat_map (λ item. item_functions item.value) items) h in
+      let first = each item.value parts.0 in
+      let rest = items_alike seen meant each items parts.1 in
+      λ i. first i ∷ rest i
+
+  module _ (group : Group) where
+    abbrev pub seen_of : Operand → Field
+    seen_of = seen_operand columns plan (finished_of plan.aggregates group)
+
+    abbrev pub meant_of : Operand → Field
+    meant_of = at_group columns plan.grouping group
+
+    function_seen : (f : SetFunction) → list_any (same_aggregate (aggregate_of columns f)) plan.aggregates ≡ true → seen_aggregate plan (finished_of plan.aggregates group) (aggregate_of columns f) ≡ function_value columns f group.rows
+    function_seen f h = field_found (λ a. aggregate_value a group.rows) (aggregate_of columns f) plan.aggregates h ∙ value_of columns f group.rows
+
+    operand_seen : (o : Operand) → AreNamed (operand_functions o) → seen_of o ≡ meant_of o
+    operand_seen (Column column) h = refl
+    operand_seen (Literal n) h = refl
+    operand_seen (Function f) h = function_seen f h.0
+
+    pub kept_seen : (having : Option Formula) → AreNamed (having_functions having) → is_kept having seen_of ≡ is_kept having meant_of
+    kept_seen having h = kept_alike seen_of meant_of operand_seen having h
 
     item_seen : (item : ItemValue) → AreNamed (item_functions item) → seen_item columns plan (finished_of plan.aggregates group) item ≡ item_value columns plan.grouping group item
     item_seen (Grouped column) h = refl
     item_seen (Computed f) h = function_seen f h.0
 
-    items_seen : (items : List Item) → AreNamed (flat_map (λ item. item_functions item.value) items) → map (λ item. seen_item columns plan (finished_of plan.aggregates group) item.value) items ≡ map (λ item. item_value columns plan.grouping group item.value) items
-    items_seen [] h = refl
-    items_seen (item ∷ items) h =
-        let parts = parted (item_functions item.value) (flat_map (λ item. item_functions item.value) items) h in
-        let first = item_seen item.value parts.0 in
-        let rest = items_seen items parts.1 in
-        λ i. first i ∷ rest i
+    pub items_seen : (items : List Item) → AreNamed (flat_map (λ item. item_functions item.value) items) → map (λ item. seen_item columns plan (finished_of plan.aggregates group) item.value) items ≡ map (λ item. item_value columns plan.grouping group item.value) items
+    items_seen items h = items_alike (seen_item columns plan (finished_of plan.aggregates group)) (item_value columns plan.grouping group) item_seen items h
 
-chosen_alike : {G H V : Type 0} (F : G → H) (p : H → Bool) (f : H → V) (q : G → Bool) (g : G → V) → ((x : G) → p (F x) ≡ q x) → ((x : G) → f (F x) ≡ g x) → (xs : List G) → map f (filter p (map F xs)) ≡ map g (filter q xs)
+pub chosen_alike : {G H V : Type 0} (F : G → H) (p : H → Bool) (f : H → V) (q : G → Bool) (g : G → V) → ((x : G) → p (F x) ≡ q x) → ((x : G) → f (F x) ≡ g x) → (xs : List G) → map f (filter p (map F xs)) ≡ map g (filter q xs)
 chosen_alike F p f q g same value [] = refl
 chosen_alike F p f q g same value (x ∷ xs) =
     let rest = chosen_alike F p f q g same value xs in

@@ -259,20 +259,20 @@ module _ (by : List ℕ) (v : Vector) (mask : List Bool) (places : List ℕ) (g 
       subst (λ (n : ℕ). rows_placed n v mask places g ≡ rows_with by (rows_below n v mask) key) e (placed_next k (omega arith) (has mask k) refl (placed_with k (omega arith)))
 
 -- the groups with a vector's rows more
-pub groups_more : (by : List ℕ) (named : List Aggregate) (v : Vector) (mask : List Bool) (rows : List Cells) (before after : Places) (split : Split) (old new : List (Vec Tally)) → IsIndex after → IsSplit by v mask before.index after.index split → length new ≡ length old → ((i : ℕ) (a : Aggregate) (c : Vec Tally) → i < length named → i < length old → IsTaken (get_or named i a) v split (length after.index) (get_or old i c).items (get_or new i c).items) → AreGroups by named rows before.index old → AreGroups by named (rows ++ rows_at v mask) after.index new
+pub groups_more : (by : List ℕ) (named : List Aggregate) (v : Vector) (mask : List Bool) (rows : List Cells) (before after : Places) (split : Split) (old new : List (Vec Tally)) → IsIndex after → IsSplit by v mask before.index.entries after.index.entries split → length new ≡ length old → ((i : ℕ) (a : Aggregate) (c : Vec Tally) → i < length named → i < length old → IsTaken (get_or named i a) v split (length after.index.entries) (get_or old i c).items (get_or new i c).items) → AreGroups by named rows before.index.entries old → AreGroups by named (rows ++ rows_at v mask) after.index.entries new
 groups_more by named v mask rows before after split old new index placed size taken h = record {
   size = size ∙ h.size;
   columns = λ i c l. let m : i < length old = omega (arith, h.size, l) in (taken i Rows c l m).size (omega (arith, h.columns i c l, placed.grown.longer));
-  held = λ key g is. one_held key g is (place_in before.index key) refl;
+  held = λ key g is. one_held key g is (place_in before.index.entries key) refl;
   occurs = λ key. placed.occurs key ∙ ap (λ b. b || list_any (same_cells key) (map (key_of by) (rows_at v mask))) (h.occurs key)
       ∙ sym (list_any-append (same_cells key) (map (key_of by) rows) (map (key_of by) (rows_at v mask))) ∙ ap (list_any (same_cells key)) (sym (map-append (key_of by) rows (rows_at v mask)));
 }
   where
-    agrees : (key : Cells) (g : ℕ) → place_in after.index key ≡ Some g → (n : ℕ) → n < 1024 → has split.left n ≡ true → (get_or split.places n 0 == g) ≡ same_cells key (key_of by (row_at v n))
+    agrees : (key : Cells) (g : ℕ) → place_in after.index.entries key ≡ Some g → (n : ℕ) → n < 1024 → has split.left n ≡ true → (get_or split.places n 0 == g) ≡ same_cells key (key_of by (row_at v n))
     agrees key g is n l on = by_test (same_cells key (key_of by (row_at v n))) refl
       where
         by_test : (b : Bool) → same_cells key (key_of by (row_at v n)) ≡ b → (get_or split.places n 0 == g) ≡ b
-        by_test true e = (Decides-eqb (get_or split.places n 0) g).1 (same_Some _ _ (sym (placed.placed n l on) ∙ ap (place_in after.index) (sym (one_row key (key_of by (row_at v n)) e)) ∙ is))
+        by_test true e = (Decides-eqb (get_or split.places n 0) g).1 (same_Some _ _ (sym (placed.placed n l on) ∙ ap (place_in after.index.entries) (sym (one_row key (key_of by (row_at v n)) e)) ∙ is))
         by_test false e = by_place (get_or split.places n 0 == g) refl
           where
             by_place : (b : Bool) → (get_or split.places n 0 == g) ≡ b → b ≡ false
@@ -281,13 +281,13 @@ groups_more by named v mask rows before after split old new index placed size ta
                 let same : key ≡ key_of by (row_at v n) = index.apart key (key_of by (row_at v n)) g is (placed.placed n l on ∙ ap Some ((Decides-eqb (get_or split.places n 0) g).0 f)) in
                 absurd (false≢true (sym e ∙ ap (same_cells key) (sym same) ∙ itself_row key))
 
-    more : (key : Cells) (g : ℕ) → place_in after.index key ≡ Some g → rows_shared v split g ≡ rows_with by (rows_at v mask) key
+    more : (key : Cells) (g : ℕ) → place_in after.index.entries key ≡ Some g → rows_shared v split g ≡ rows_with by (rows_at v mask) key
     more key g is =
-        shared_with by v after.index split.places split.left key g index.apart is
+        shared_with by v after.index.entries split.places split.left key g index.apart is
         (placed_with by v split.left split.places g key (agrees key g is) 1024 (omega arith) ∙ ap (λ l. rows_with by l key) (below_all 1024 v split.left refl))
         mask (slices_of split) placed.parted
 
-    one_held : (key : Cells) (g : ℕ) → place_in after.index key ≡ Some g → (o : Option ℕ) → place_in before.index key ≡ o → AreHeld (rows_with by (rows ++ rows_at v mask) key) named new g
+    one_held : (key : Cells) (g : ℕ) → place_in after.index.entries key ≡ Some g → (o : Option ℕ) → place_in before.index.entries key ≡ o → AreHeld (rows_with by (rows ++ rows_at v mask) key) named new g
     one_held key g is (Some p) was =
         let same : p ≡ g = same_Some _ _ (sym (placed.grown.kept key p was) ∙ is) in
         let here = h.held key g (was ∙ ap Some same) in

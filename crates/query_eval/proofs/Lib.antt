@@ -30,6 +30,9 @@ pub mod FormLemmas
 pub mod VectorLemmas
 pub mod MentionLemmas
 pub mod AnswerLemmas
+pub mod OnceLemmas
+pub mod OnceGroups
+pub mod HavingLemmas
 pub mod OrderLemmas
 pub mod IndexLemmas
 pub mod ValueLists

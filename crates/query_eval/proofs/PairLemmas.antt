@@ -21,7 +21,7 @@ pub is_no : (mask : List Bool) (t : ℕ → Truth) (f : ℕ → Bool) → ((n : 
 unfolding no_of
 is_no mask t f h = rows_of-like _ _ h
 
-has_yes : (mask : List Bool) (t : ℕ → Truth) (n : ℕ) → n < 1024 → has (yes_of mask t) n ≡ (has mask n && is_true (t n))
+pub has_yes : (mask : List Bool) (t : ℕ → Truth) (n : ℕ) → n < 1024 → has (yes_of mask t) n ≡ (has mask n && is_true (t n))
 unfolding yes_of
 has_yes mask t n h = has-rows_of (λ n. has mask n && is_true (t n)) n h
 
@@ -216,3 +216,19 @@ false_yes mask = is_yes mask (λ _. False) _ (λ n l. sym (and-false (has mask n
 -- all rows are where what is true everywhere is true
 pub true_yes : (mask : List Bool) → rows_of (λ n. has mask n && has mask n) ≡ yes_of mask (λ _. True)
 true_yes mask = is_yes mask (λ _. True) _ (λ n l. and_self (has mask n) ∙ sym (and-true (has mask n)))
+
+-- OR where the second condition is asked for only at the rows at which the first isn't true
+or_rest_no : (m : Bool) (s t : Truth) (y u r w : Bool) → y ≡ (m && is_false s) → u ≡ (m && is_true s) → r ≡ (m && not u) → w ≡ (r && is_false t) → (y && w) ≡ (m && is_false (or_of s t))
+or_rest_no false s t y u r w ey eu er ew = ap (λ b. b && w) ey
+or_rest_no true False t y u r w ey eu er ew = ap (λ b. b && w) ey ∙ ew ∙ ap (λ b. b && is_false t) (er ∙ ap not eu) ∙ sym (is_false-or_of False t)
+or_rest_no true True t y u r w ey eu er ew = ap (λ b. b && w) ey ∙ sym (is_false-or_of True t)
+or_rest_no true Unknown t y u r w ey eu er ew = ap (λ b. b && w) ey ∙ sym (is_false-or_of Unknown t)
+
+pub pair_or_rest : (a b c : Pair) → c.yes ≡ rows_of (λ n. has a.yes n || has b.yes n) → c.no ≡ rows_of (λ n. has a.no n && has b.no n) → (mask rest : List Bool) (s t : ℕ → Truth) → IsPair mask s a → rest ≡ rows_of (λ n. has mask n && not (has a.yes n)) → IsPair rest t b → IsPair mask (λ n. or_of (s n) (t n)) c
+pair_or_rest a b c e f mask rest s t p g q = record {
+  yes = e ∙ is_yes mask (λ n. or_of (s n) (t n)) _ (λ n h. or_rest (has mask n) (s n) (t n) _ _ _ (yes_at mask s a p n h) (left n h) (yes_at rest t b q n h));
+  no = f ∙ is_no mask (λ n. or_of (s n) (t n)) _ (λ n h. or_rest_no (has mask n) (s n) (t n) _ _ _ _ (no_at mask s a p n h) (yes_at mask s a p n h) (left n h) (no_at rest t b q n h));
+}
+  where
+    left : (n : ℕ) → n < 1024 → has rest n ≡ (has mask n && not (has a.yes n))
+    left n h = ap (λ m. has m n) g ∙ has-rows_of (λ n. has mask n && not (has a.yes n)) n h

@@ -1,6 +1,6 @@
 -- Places of groups: one key more, one row more.
 use Rattle.std.proofs.Common.{◌≡◌, ◌≢◌, ℕ, zero, suc, ◌+◌, ◌<◌, ◌≤◌, ◌⊎◌, inl, inr, Bool, true, false, cond, ◌||◌, List, [], ◌∷◌, ◌++◌, map, length, get_or, set, Option, Some, None, refl, sym, ap, subst, ◌∙◌, arith, append-nil, get_or-set_same, get_or-set_other}
-use Rattle.query_eval.specs.Entries.{Entries, place_in}
+use Rattle.query_eval.specs.Entries.{Entries, Indexed, place_in}
 use Rattle.std.specs.Global.{Vec}
 use Rattle.std.specs.List.{list_any}
 use Rattle.std.specs.Option.{is_some}
@@ -16,6 +16,7 @@ use Rattle.transpose_order.specs.Mask.{has}
 use Rattle.query_eval.specs.Places.{ArePlaced, IsGrown, IsIndex, IsTakenIn, rows_below}
 use Rattle.query_eval.specs.Vector.{Vector, row_at}
 use Rattle.query_eval.specs.declared.grouping.places.Recent.{Recent}
+use Rattle.query_eval.specs.declared.hash_key.HashKey.{HashKey}
 use Rattle.query_eval.proofs.RowsBelow.{below_more}
 
 or_known : (a b : Bool) → (b ≡ true → a ≡ true) → a ≡ (a || b)
@@ -85,8 +86,8 @@ module _ (key : Cells) (old new : Entries) (n : ℕ) (many : n ≡ length old) (
     occurs = λ q. one_occurs q (same_cells key q) refl;
   }
 
-  pub index_new : (recent : Vec (Option Recent)) (null : Option ℕ) → IsIndex (record { index = old; recent = recent; null = null }) → IsIndex (record { index = new; recent = recent; null = null })
-  index_new recent null h = record {
+  pub index_new : (k l : HashKey) (recent : Vec (Option Recent)) (null : Option ℕ) → IsIndex (record { index = record { entries = old; hash_key = k }; recent = recent; null = null }) → IsIndex (record { index = record { entries = new; hash_key = l }; recent = recent; null = null })
+  index_new k l recent null h = record {
     below = λ q place is. one_below q place is (same_cells key q) refl;
     apart = λ q r place is also. one_apart q r place is also (same_cells key q) (same_cells key r) refl refl;
     recent = λ i r is. one_kept (Some r.value ∷ []) r.place (h.recent i r is) (same_cells key (Some r.value ∷ [])) refl;
@@ -104,7 +105,7 @@ module _ (key : Cells) (old new : Entries) (n : ℕ) (many : n ≡ length old) (
       one_apart q r place is also false false e f = h.apart q r place (sym (here q false e) ∙ is) (sym (here r false f) ∙ also)
 
 -- a value's place is remembered
-pub index_remembered : (index : Entries) (before after : Vec (Option Recent)) (null : Option ℕ) (entry : Recent) → place_in index (Some entry.value ∷ []) ≡ Some entry.place → ((i : ℕ) (r : Recent) → get_or after.items i None ≡ Some r → (r ≡ entry) ⊎ (get_or before.items i None ≡ Some r)) → IsIndex (record { index = index; recent = before; null = null }) → IsIndex (record { index = index; recent = after; null = null })
+pub index_remembered : (index : Indexed) (before after : Vec (Option Recent)) (null : Option ℕ) (entry : Recent) → place_in index.entries (Some entry.value ∷ []) ≡ Some entry.place → ((i : ℕ) (r : Recent) → get_or after.items i None ≡ Some r → (r ≡ entry) ⊎ (get_or before.items i None ≡ Some r)) → IsIndex (record { index = index; recent = before; null = null }) → IsIndex (record { index = index; recent = after; null = null })
 index_remembered index before after null entry is from h = record {
   below = h.below;
   apart = h.apart;
@@ -112,12 +113,12 @@ index_remembered index before after null entry is from h = record {
   null = h.null;
 }
   where
-    one : (i : ℕ) (r : Recent) → (r ≡ entry) ⊎ (get_or before.items i None ≡ Some r) → place_in index (Some r.value ∷ []) ≡ Some r.place
-    one i r (inl e) = subst (λ (x : Recent). place_in index (Some x.value ∷ []) ≡ Some x.place) (sym e) is
+    one : (i : ℕ) (r : Recent) → (r ≡ entry) ⊎ (get_or before.items i None ≡ Some r) → place_in index.entries (Some r.value ∷ []) ≡ Some r.place
+    one i r (inl e) = subst (λ (x : Recent). place_in index.entries (Some x.value ∷ []) ≡ Some x.place) (sym e) is
     one i r (inr e) = h.recent i r e
 
 -- the place of null is remembered
-pub index_null : (index : Entries) (recent : Vec (Option Recent)) (before : Option ℕ) (place : ℕ) → place_in index (None ∷ []) ≡ Some place → IsIndex (record { index = index; recent = recent; null = before }) → IsIndex (record { index = index; recent = recent; null = Some place })
+pub index_null : (index : Indexed) (recent : Vec (Option Recent)) (before : Option ℕ) (place : ℕ) → place_in index.entries (None ∷ []) ≡ Some place → IsIndex (record { index = index; recent = recent; null = before }) → IsIndex (record { index = index; recent = recent; null = Some place })
 index_null index recent before place is h = record {
   below = h.below;
   apart = h.apart;

@@ -4,10 +4,10 @@ use Rattle.std.specs.List.{position_or_len}
 use Rattle.table_model.specs.Answer.{whole}
 use Rattle.table_model.specs.Group.{Group, group_at, groups_of}
 use Rattle.table_model.specs.Formula.{Formula}
-use Rattle.table_model.specs.Meaning.{place_of, grouping_of, is_kept, rows_where}
+use Rattle.table_model.specs.Meaning.{place_of, grouping_of, is_kept}
 use Rattle.table_model.specs.Query.{QueryShape}
 use Rattle.table_model.specs.State.{Cells}
-use Rattle.table_model.specs.Table.{ColumnShape, Table}
+use Rattle.table_model.specs.Table.{ColumnShape}
 use Rattle.table_model.specs.declared.answer.Field.{Field}
 use Rattle.table_model.specs.declared.answer.Field.TheVariants.{Null, Whole}
 use Rattle.table_model.specs.declared.query.Item.{Item}
@@ -78,7 +78,3 @@ groups_kept columns plan having groups = filter (λ group. is_kept having (seen_
 -- what a query asks of its groups
 abbrev pub plan_of : List ColumnShape → QueryShape → PlanShape
 plan_of columns query = record { grouping = grouping_of columns query; aggregates = aggregates_of columns query }
-
--- a query's groups over some rows, of which WHERE keeps those at which it is true, when they are finished
-abbrev pub groups_over : Table → QueryShape → List Cells → List GroupFields
-groups_over table query rows = finished_by (plan_of table.columns query) (rows_where table.columns query rows)

@@ -83,7 +83,7 @@ pub record AreGroups (by : List ℕ) (aggregates : List Aggregate) (rows : List 
 
 -- the same of a query's groups under way
 abbrev pub AreGroupsOf : PlanShape → List Cells → Groups → Type 0
-AreGroupsOf plan rows groups = AreGroups plan.grouping plan.aggregates rows groups.places.index groups.tallies.items
+AreGroupsOf plan rows groups = AreGroups plan.grouping plan.aggregates rows groups.places.index.entries groups.tallies.items
 
 -- more rows are taken into groups, whatever rows were before
 abbrev pub GroupMore : PlanShape → List Cells → Groups → Groups → Type 0

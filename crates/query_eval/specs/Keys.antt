@@ -42,15 +42,15 @@ AreKeys by v mask keys = (n : ℕ) → n < 1024 → has mask n ≡ true → keys
 
 -- whatever the grouping columns and the vector in which the rows of a mask have these keys, they are sliced by them
 abbrev pub IsSlicing : (ℕ → Cells) → List Bool → List Bool → Places → Places → List Slice → Type 0
-IsSlicing keys mask left old new slices = (by : List ℕ) (v : Vector) → AreKeys by v mask keys → IsIndex old → AreSliced by v mask left old.index new.index slices
+IsSlicing keys mask left old new slices = (by : List ℕ) (v : Vector) → AreKeys by v mask keys → IsIndex old → AreSliced by v mask left old.index.entries new.index.entries slices
 
 -- whatever the grouping columns and the vector in which the rows of a mask have these keys, they are split by them
 abbrev pub IsSplitting : (ℕ → Cells) → List Bool → Places → Places → Split → Type 0
-IsSplitting keys mask old new split = (by : List ℕ) (v : Vector) → AreKeys by v mask keys → IsIndex old → IsSplit by v mask old.index new.index split
+IsSplitting keys mask old new split = (by : List ℕ) (v : Vector) → AreKeys by v mask keys → IsIndex old → IsSplit by v mask old.index.entries new.index.entries split
 
 -- whatever the grouping columns and the vector in which the rows of a mask have these keys, they have the places of them
 abbrev pub IsPlacing : (ℕ → Cells) → List Bool → Places → Places → List ℕ → Type 0
-IsPlacing keys mask old new out = (by : List ℕ) (v : Vector) → AreKeys by v mask keys → IsIndex old → ArePlaced 1024 by v mask old.index new.index out
+IsPlacing keys mask old new out = (by : List ℕ) (v : Vector) → AreKeys by v mask keys → IsIndex old → ArePlaced 1024 by v mask old.index.entries new.index.entries out
 
 -- codes are few enough to slice by, each of 1024 rows has one up to the count, and the values below it rise
 pub record AreFewCodes (count : ℕ) (codes : List ℕ) (values : List ℤ) : Type 0 where

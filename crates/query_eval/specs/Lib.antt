@@ -28,3 +28,5 @@ pub mod Keys
 pub mod Bits
 pub mod Forms
 pub mod HashKey
+pub mod Once
+pub mod FieldPlaces

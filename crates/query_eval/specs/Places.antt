@@ -22,10 +22,10 @@ rows_placed k v mask places place = present (map (λ n. cond (has mask n && (sli
 
 -- the places are those below the number of keys, no two keys have the same, and what is remembered of values and null is so
 pub record IsIndex (places : Places) : Type 0 where
-  pub below : (key : Cells) (place : ℕ) → place_in places.index key ≡ Some place → place < length places.index
-  pub apart : (key other : Cells) (place : ℕ) → place_in places.index key ≡ Some place → place_in places.index other ≡ Some place → key ≡ other
-  pub recent : (i : ℕ) (recent : Recent) → slice_index_or places.recent.items i None ≡ Some recent → place_in places.index (Some recent.value ∷ []) ≡ Some recent.place
-  pub null : (place : ℕ) → places.null ≡ Some place → place_in places.index (None ∷ []) ≡ Some place
+  pub below : (key : Cells) (place : ℕ) → place_in places.index.entries key ≡ Some place → place < length places.index.entries
+  pub apart : (key other : Cells) (place : ℕ) → place_in places.index.entries key ≡ Some place → place_in places.index.entries other ≡ Some place → key ≡ other
+  pub recent : (i : ℕ) (recent : Recent) → slice_index_or places.recent.items i None ≡ Some recent → place_in places.index.entries (Some recent.value ∷ []) ≡ Some recent.place
+  pub null : (place : ℕ) → places.null ≡ Some place → place_in places.index.entries (None ∷ []) ≡ Some place
 
 -- some keys more: those that had a place keep it, and those that come have new ones
 pub record IsGrown (old new : Entries) : Type 0 where
@@ -51,8 +51,8 @@ AreKeyCells by v mask nulls values = (n : ℕ) → n < 1024 → has mask n ≡ t
 
 -- the rows of a mask have the places of their keys, which are decoded values but for the nulls
 abbrev pub PlacesCells : List Bool → List ℤ → List Bool → Places → Places → List ℕ → Type 0
-PlacesCells nulls values mask old new out = (by : List ℕ) (v : Vector) → AreKeyCells by v mask nulls values → IsIndex old → ArePlaced 1024 by v mask old.index new.index out
+PlacesCells nulls values mask old new out = (by : List ℕ) (v : Vector) → AreKeyCells by v mask nulls values → IsIndex old → ArePlaced 1024 by v mask old.index.entries new.index.entries out
 
 -- the rows of a word of a mask have the places of their keys too, which are decoded values but for those of a word of nulls
 abbrev pub PlacesWord : List ℤ → ℕ → ℕ → ℕ → Places → Places → List ℕ → List ℕ → Type 0
-PlacesWord values word nulls first old new before after = (by : List ℕ) (v : Vector) (mask null_rows : List Bool) (start : Entries) → AreKeyCells by v mask null_rows values → AreBits 64 word mask first → AreBits 64 nulls null_rows first → IsIndex old → ArePlaced first by v mask start old.index before → ArePlaced (first + 64) by v mask start new.index after
+PlacesWord values word nulls first old new before after = (by : List ℕ) (v : Vector) (mask null_rows : List Bool) (start : Entries) → AreKeyCells by v mask null_rows values → AreBits 64 word mask first → AreBits 64 nulls null_rows first → IsIndex old → ArePlaced first by v mask start old.index.entries before → ArePlaced (first + 64) by v mask start new.index.entries after

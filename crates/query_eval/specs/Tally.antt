@@ -41,7 +41,7 @@ abbrev pub IsTally : List ℤ → Tally → Type 0
 IsTally values (Count count) = length values ≤ state_row_limit → count ≡ length values
 IsTally values (Sum sums) = AreTold values sums
 IsTally values (Extreme extreme value) = value ≡ extreme_of extreme values
-IsTally values (Distinct seen) = AreAlike seen.value values
+IsTally values (Distinct seen) = AreAlike seen.value.values values
 
 -- a set function under way that had taken in these values has taken in some more
 abbrev pub TakesMore : List ℤ → List ℤ → Tally → Tally → Type 0

@@ -1,6 +1,6 @@
 //! The secret key of the hashes by which the places of groups, and the values under DISTINCT, are found.
 ghost use Rattle.std.specs.Prelude.{◌≡◌};
-ghost use Rattle.query_eval.specs.HashKey.{folded, keyed_finish, keyed_write, keyed_hasher};
+ghost use Rattle.query_eval.specs.HashKey.{folded, key_of_words, keyed_finish, keyed_write, keyed_hasher};
 
 use std::hash::{BuildHasher, FoldHasher, Hasher};
 
@@ -33,7 +33,9 @@ fn folded_product(a: u64, b: u64) -> u64
 
 impl HashKey {
     /// The key of two words, which are drawn at random.
-    pub fn new(first: u64, second: u64) -> HashKey {
+    pub fn new(first: u64, second: u64) -> HashKey
+        ensures { result ≡ key_of_words first second }
+    {
         let mut start = FoldHasher::default();
         start.write_u64(first);
         HashKey {
@@ -43,7 +45,9 @@ impl HashKey {
     }
 
     /// The key that is the same in each process, for tables whose values are trusted.
-    pub fn fixed() -> HashKey {
+    pub fn fixed() -> HashKey
+        ensures { result ≡ key_of_words 0 0x9e37_79b9_7f4a_7c15 }
+    {
         HashKey::new(0, 0x9e37_79b9_7f4a_7c15)
     }
 }

@@ -102,3 +102,28 @@ fn ten_groups_take_no_pass_each(rt: HostRuntime) -> Result<(), Fail> {
     let store = filled_store(rt.alloc(), 10, true)?;
     has_answers(rt.alloc(), &store, &OF_TEN_GROUPS)
 }
+
+/// Queries that mention the column again and again: it is asked once for each different set function, and once for the keys.
+const OF_MENTIONS: [Asked; 3] = [
+    (
+        "SELECT A,SUM(A),SUM(A),AVG(A) FROM T GROUP BY A,A HAVING SUM(A)>8 AND SUM(A)<10",
+        "A,SUM(A),SUM(A),AVG(A)\n9,9,9,9.000000\n",
+        3,
+    ),
+    (
+        "SELECT COUNT(DISTINCT A),COUNT(A),COUNT(DISTINCT A) FROM T",
+        "COUNT(DISTINCT A),COUNT(A),COUNT(DISTINCT A)\n10,10,10\n",
+        2,
+    ),
+    (
+        "SELECT COUNT(*) FROM T GROUP BY A,A,A HAVING MAX(A)=10 OR MAX(A)=1",
+        "COUNT(*)\n1\n1\n",
+        2,
+    ),
+];
+
+#[test]
+fn what_is_mentioned_again_is_asked_once(rt: HostRuntime) -> Result<(), Fail> {
+    let store = filled_store(rt.alloc(), 10, true)?;
+    has_answers(rt.alloc(), &store, &OF_MENTIONS)
+}

@@ -2,27 +2,28 @@
 ghost use Rattle.std.specs.Prelude.{◌≡◌, List, IfOk, map};
 ghost use Rattle.table_model.specs.Meaning.{answer_over, item_text, rows_where};
 ghost use Rattle.table_model.specs.State.{Cells};
-ghost use Rattle.query_eval.specs.Finished.{groups_kept, groups_over, plan_of, seen_items};
+ghost use Rattle.query_eval.specs.FieldPlaces.{field_in};
+ghost use Rattle.query_eval.specs.Finished.{groups_kept, seen_items};
+ghost use Rattle.query_eval.specs.Once.{asked_once, groups_over};
 
-use crate::answers::having::{is_kept, item_at};
+use crate::answers::field_places::{FieldPlace, item_places};
+use crate::answers::group_masks::{has_group, kept_groups};
 use crate::answers::heading::heading;
 use crate::tallies::{FinishedGroup, Plan};
 use std::alloc::{AllocError, Global};
 use table_model::{Answer, AnswerRow, Condition, Item, Query, Schema};
 
-/// The answer's row of a group: a field for each select item.
+/// The answer's row of a group: the field at the place of each select item.
 fn row_of(
     alloc: Global,
-    schema: &Schema,
-    plan: &Plan,
     group: &FinishedGroup,
-    items: &[Item],
+    places: &[FieldPlace],
 ) -> Result<AnswerRow, AllocError>
-    ensures { IfOk result (λ row. row ≡ seen_items schema.now.columns plan.now items.now group.now) }
+    ensures { IfOk result (λ row. row ≡ map (field_in group.now) places.now) }
 {
-    let mut fields = Vec::with_capacity(alloc, items.len())?;
-    for item in items {
-        fields.push(item_at(schema, plan, group, &item.value))?;
+    let mut fields = Vec::with_capacity(alloc, places.len())?;
+    for place in places {
+        fields.push(place.of_group(group))?;
     }
     Ok(AnswerRow::from_fields(fields))
 }
@@ -38,10 +39,12 @@ fn kept_rows(
 ) -> Result<Vec<AnswerRow>, AllocError>
     ensures { IfOk result (λ rows. rows.items ≡ map (seen_items schema.now.columns plan.now items.now) (groups_kept schema.now.columns plan.now having.now groups.now)) }
 {
+    let kept = kept_groups(alloc, schema, plan, groups, having)?;
+    let places = item_places(alloc, schema, plan, items)?;
     let mut rows = Vec::new(alloc);
-    for group in groups {
-        if is_kept(schema, plan, group, having) {
-            rows.push(row_of(alloc, schema, plan, group, items)?)?;
+    for index in 0..groups.len() {
+        if has_group(kept.as_slice(), index) {
+            rows.push(row_of(alloc, &groups[index], places.as_slice())?)?;
         }
     }
     Ok(rows)
@@ -79,7 +82,7 @@ pub fn finish(
     plan: &Plan,
     groups: &[FinishedGroup],
 ) -> Result<Answer, AllocError>
-    requires { plan.now ≡ plan_of schema.now.columns query.now }
+    requires { plan.now ≡ asked_once schema.now.columns query.now }
     ensures { IfOk result (λ answer. (rows : List Cells) → groups.now ≡ groups_over schema.now query.now rows → answer ≡ answer_over schema.now query.now rows) }
 {
     let answer = answer_of_groups(alloc, schema, query, plan, groups)?;

@@ -1,6 +1,8 @@
 //! Answers: the rows taken in, HAVING, and the heading and the rows of an answer.
 
 mod answer_rows;
+mod field_places;
+mod group_masks;
 mod having;
 mod heading;
 mod query_answer;

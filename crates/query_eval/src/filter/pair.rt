@@ -50,9 +50,10 @@ impl Pair {
         }
     }
 
-    /// OR, row by row.
+    /// OR, row by row. The other condition needs no look at the rows at which this one is true.
     pub fn or(&self, other: &Pair) -> Pair
-        ensures { (mask : List Bool) (s t : ℕ → TruthValue) → IsPair mask s self.now → IsPair mask t other.now → IsPair mask (λ n. or_of (s n) (t n)) result }
+        ensures rest { (mask rest : List Bool) (s t : ℕ → TruthValue) → IsPair mask s self.now → rest ≡ rows_except mask self.now.yes → IsPair rest t other.now → IsPair mask (λ n. or_of (s n) (t n)) result }
+        ensures alike { (mask : List Bool) (s t : ℕ → TruthValue) → IsPair mask s self.now → IsPair mask t other.now → IsPair mask (λ n. or_of (s n) (t n)) result }
     {
         Pair {
             yes: self.yes.or(&other.yes),

@@ -30,7 +30,7 @@ fn slice_of(
 ) -> Result<Slice, AllocError>
     requires { code < 1024 }
     ensures index { OnOk result (IsIndex places.old → IsIndex places.new) }
-    ensures taken { IfOk result (λ slice. IsIndex places.old → IsTakenIn (cell_of_code count keys.now code ∷ []) slice.place places.old.index places.new.index) }
+    ensures taken { IfOk result (λ slice. IsIndex places.old → IsTakenIn (cell_of_code count keys.now code ∷ []) slice.place places.old.index.entries places.new.index.entries) }
     ensures rows { IfOk result (λ slice. slice.rows ≡ rows.now) }
     ensures code { IfOk result (λ slice. slice.code ≡ code) }
 {

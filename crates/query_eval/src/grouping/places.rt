@@ -52,7 +52,8 @@ impl Places {
     /// No places, which hashes of this key will find.
     pub fn new(alloc: Global, hash_key: HashKey) -> Result<Places, AllocError>
         ensures index { IfOk result (λ places. IsIndex places) }
-        ensures empty { IfOk result (λ places. places.index ≡ []) }
+        ensures empty { IfOk result (λ places. places.index.entries ≡ []) }
+        ensures hash_key { IfOk result (λ places. places.index.hash_key ≡ hash_key) }
     {
         Ok(Places {
             index: Index::new(alloc, hash_key),
@@ -63,7 +64,7 @@ impl Places {
 
     /// How many groups there are.
     pub fn len(&self) -> usize
-        ensures { result ≡ length self.now.index }
+        ensures { result ≡ length self.now.index.entries }
     {
         self.index.len()
     }
@@ -71,8 +72,8 @@ impl Places {
     /// The keys in ascending order, with their places.
     pub fn into_entries(self, alloc: Global) -> Result<Vec<(Key, usize)>, AllocError>
         ensures ordered { IfOk result (λ entries. IsStrictlySortedBy key_cmp (keys_of entries.items)) }
-        ensures places { IfOk result (λ entries. (key : Cells) → place_in entries.items key ≡ place_in self.index key) }
-        ensures len { IfOk result (λ entries. length entries.items ≡ length self.index) }
+        ensures places { IfOk result (λ entries. (key : Cells) → place_in entries.items key ≡ place_in self.index.entries key) }
+        ensures len { IfOk result (λ entries. length entries.items ≡ length self.index.entries) }
     {
         self.index.into_entries(alloc)
     }
@@ -80,7 +81,7 @@ impl Places {
     /// The place of a key's group, which is a new one if the key is new.
     pub fn of_key(&mut self, alloc: Global, key: &Key) -> Result<usize, AllocError>
         ensures index { IfOk result (λ place. IsIndex self.old → IsIndex self.new) }
-        ensures taken { IfOk result (λ place. IsTakenIn key.now place self.old.index self.new.index) }
+        ensures taken { IfOk result (λ place. IsTakenIn key.now place self.old.index.entries self.new.index.entries) }
     {
         if let Some(place) = self.index.get(key) {
             return Ok(place);
@@ -94,7 +95,7 @@ impl Places {
     #[inline(never)]
     fn of_cell(&mut self, alloc: Global, cell: Option<i128>) -> Result<usize, AllocError>
         ensures index { IfOk result (λ place. IsIndex self.old → IsIndex self.new) }
-        ensures taken { IfOk result (λ place. IsTakenIn (cell ∷ []) place self.old.index self.new.index) }
+        ensures taken { IfOk result (λ place. IsTakenIn (cell ∷ []) place self.old.index.entries self.new.index.entries) }
     {
         let mut key = Key::empty(alloc);
         key.push(cell)?;
@@ -104,7 +105,7 @@ impl Places {
     /// The place of the group of a value in the one grouping column, which is a new one if the value is new.
     fn of_value(&mut self, alloc: Global, value: i64) -> Result<usize, AllocError>
         ensures index { IfOk result (λ place. IsIndex self.old → IsIndex self.new) }
-        ensures taken { IfOk result (λ place. IsIndex self.old → IsTakenIn (Some value ∷ []) place self.old.index self.new.index) }
+        ensures taken { IfOk result (λ place. IsIndex self.old → IsTakenIn (Some value ∷ []) place self.old.index.entries self.new.index.entries) }
     {
         let slot = slot_of(value);
         if let Some(Some(recent)) = self.recent.get(slot) {
@@ -120,7 +121,7 @@ impl Places {
     /// The place of the group of null in the one grouping column, which is a new one if there was no null before.
     fn of_null(&mut self, alloc: Global) -> Result<usize, AllocError>
         ensures index { IfOk result (λ place. IsIndex self.old → IsIndex self.new) }
-        ensures taken { IfOk result (λ place. IsIndex self.old → IsTakenIn (None ∷ []) place self.old.index self.new.index) }
+        ensures taken { IfOk result (λ place. IsIndex self.old → IsTakenIn (None ∷ []) place self.old.index.entries self.new.index.entries) }
     {
         if let Some(place) = self.null {
             return Ok(place);
@@ -133,7 +134,7 @@ impl Places {
     /// The place of the group of a cell, null or a value, in the one grouping column; it is a new one if the cell is new.
     pub fn of_row(&mut self, alloc: Global, null: bool, value: i64) -> Result<usize, AllocError>
         ensures index { IfOk result (λ place. IsIndex self.old → IsIndex self.new) }
-        ensures taken { IfOk result (λ place. IsIndex self.old → IsTakenIn (cond null None (Some value) ∷ []) place self.old.index self.new.index) }
+        ensures taken { IfOk result (λ place. IsIndex self.old → IsTakenIn (cond null None (Some value) ∷ []) place self.old.index.entries self.new.index.entries) }
     {
         if null {
             let place = self.of_null(alloc)?;

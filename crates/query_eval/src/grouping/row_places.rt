@@ -128,7 +128,7 @@ pub fn place_rows<C: Columns>(
     requires { IsThere (C.seen columns.old).state kept.now.id.batch kept.now.id.vector }
     ensures index { OnOk result (IsIndex places.old → IsIndex places.new) }
     ensures codes { OnOk result (AreByCode room.new.split) }
-    ensures placed { OnOk result (IsIndex places.old → IsSplit grouping.now (vector_of (C.seen columns.old).state kept.now.id) kept.now.rows places.old.index places.new.index room.new.split) }
+    ensures placed { OnOk result (IsIndex places.old → IsSplit grouping.now (vector_of (C.seen columns.old).state kept.now.id) kept.now.rows places.old.index.entries places.new.index.entries room.new.split) }
     ensures same { IsSame (C.seen columns.old) (C.seen columns.new) }
     ensures passes { OnOk result ((C.seen columns.new).passes ≤ (C.seen columns.old).passes + length grouping.now) }
 {

@@ -61,7 +61,7 @@ fn place_of(
 ) -> Result<usize, AllocError>
     requires { row < 1024 }
     ensures index { OnOk result (IsIndex places.old → IsIndex places.new) }
-    ensures taken { IfOk result (λ place. IsIndex places.old → IsTakenIn (column_key columns.now row) place places.old.index places.new.index) }
+    ensures taken { IfOk result (λ place. IsIndex places.old → IsTakenIn (column_key columns.now row) place places.old.index.entries places.new.index.entries) }
 {
     if columns.len() == 1 {
         let column = &columns[0];
@@ -95,7 +95,7 @@ fn slice_at(
 ) -> Result<Slice, AllocError>
     requires { row < 1024 }
     ensures index { OnOk result (IsIndex places.old → IsIndex places.new) }
-    ensures taken { IfOk result (λ slice. IsIndex places.old → IsTakenIn (column_key columns.now row) slice.place places.old.index places.new.index) }
+    ensures taken { IfOk result (λ slice. IsIndex places.old → IsTakenIn (column_key columns.now row) slice.place places.old.index.entries places.new.index.entries) }
     ensures rows { IfOk result (λ slice. (n : ℕ) → n < 1024 → has slice.rows n ≡ (has mask.now n && same_cells (column_key columns.now row) (column_key columns.now n))) }
 {
     let place = place_of(alloc, places, columns, key, row)?;

@@ -22,9 +22,9 @@ fn came_before(before: Option<i64>, value: i64) -> bool
 /// Adds a value to values that have that of the row before. If the two are the same, nothing is added.
 #[inline(always)]
 fn add_after(seen: &mut Seen, before: Option<i64>, value: i64) -> Result<(), AllocError>
-    requires { IfSome before (λ last. list_any (int_eq last) seen.old ≡ true) }
-    ensures values { OnOk result ((z : ℤ) → list_any (int_eq z) seen.new ≡ cond (int_eq value z) true (list_any (int_eq z) seen.old)) }
-    ensures there { OnOk result (list_any (int_eq value) seen.new ≡ true) }
+    requires { IfSome before (λ last. list_any (int_eq last) seen.old.values ≡ true) }
+    ensures values { OnOk result ((z : ℤ) → list_any (int_eq z) seen.new.values ≡ cond (int_eq value z) true (list_any (int_eq z) seen.old.values)) }
+    ensures there { OnOk result (list_any (int_eq value) seen.new.values ≡ true) }
 {
     if !came_before(before, value) {
         seen.insert(value)?;
@@ -38,7 +38,7 @@ pub(crate) fn add_values(
     rows: &Mask,
     values: &[i64; 1024],
 ) -> Result<(), AllocError>
-    ensures { OnOk result ((z : ℤ) → list_any (int_eq z) seen.new ≡ (list_any (int_eq z) seen.old || list_any (int_eq z) (values_at rows.now values.now))) }
+    ensures { OnOk result ((z : ℤ) → list_any (int_eq z) seen.new.values ≡ (list_any (int_eq z) seen.old.values || list_any (int_eq z) (values_at rows.now values.now))) }
 {
     let mut before = None;
     for row in 0..1024 {

@@ -1,5 +1,5 @@
 //! Groups under way, vector by vector.
-ghost use Rattle.std.specs.Prelude.{◌≤◌, ◌+◌, [], ℕ, List, length, IfOk, OnOk};
+ghost use Rattle.std.specs.Prelude.{◌≡◌, ◌≤◌, ◌+◌, [], ℕ, List, length, IfOk, OnOk};
 ghost use Rattle.query_eval.specs.Read.{IsSame};
 ghost use Rattle.query_eval.specs.Grouping.{AreEmpty, AreGroups, GroupMore, plan_mentions};
 ghost use Rattle.query_eval.specs.Kept.{rows_at};
@@ -42,7 +42,8 @@ impl Groups {
         aggregates: &[Aggregate],
     ) -> Result<Groups, AllocError>
         ensures index { IfOk result (λ groups. IsIndex groups.places) }
-        ensures groups { IfOk result (λ groups. (by : List ℕ) → AreGroups by aggregates.now [] groups.places.index groups.tallies.items) }
+        ensures hash_key { IfOk result (λ groups. groups.places.index.hash_key ≡ hash_key) }
+        ensures groups { IfOk result (λ groups. (by : List ℕ) → AreGroups by aggregates.now [] groups.places.index.entries groups.tallies.items) }
     {
         let places = Places::new(alloc, hash_key)?;
         let tallies = no_tallies(alloc, aggregates)?;

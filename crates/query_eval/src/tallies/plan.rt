@@ -1,10 +1,11 @@
 //! What a query asks of its groups, by places in the table's schema.
-ghost use Rattle.std.specs.Prelude.{◌≡◌, ◌++◌, IfOk, OnOk, map};
-ghost use Rattle.std.specs.List.{flat_map};
+ghost use Rattle.std.specs.Prelude.{◌≡◌, ◌++◌, ◌==◌, IfOk, OnOk, map};
+ghost use Rattle.std.specs.List.{flat_map, list_any};
 ghost use Rattle.table_model.specs.Meaning.{grouping_of, place_of};
 ghost use Rattle.table_model.specs.Query.{formula_of_factor, formula_of_primary, formula_of_term, formula_of_test};
-ghost use Rattle.query_eval.specs.Aggregate.{aggregate_of, aggregates_of, condition_functions, having_functions, item_functions, operand_functions, predicate_functions};
+ghost use Rattle.query_eval.specs.Aggregate.{aggregate_of, aggregates_of, condition_functions, having_functions, item_functions, operand_functions, predicate_functions, same_aggregate};
 ghost use Rattle.query_eval.specs.Finished.{plan_of};
+ghost use Rattle.query_eval.specs.Once.{aggregates_once, functions_once, once_plan, places_once, with_aggregate, with_place};
 
 use crate::tallies::aggregate::{Aggregate, place_or_end};
 use std::alloc::{AllocError, Global};
@@ -56,6 +57,30 @@ impl Plan {
         }
     }
 
+    /// This plan with each grouping column and each aggregate once, in the order of their first mentions.
+    pub fn once(&self, alloc: Global) -> Result<Plan, AllocError>
+        ensures { IfOk result (λ plan. plan ≡ once_plan self.now) }
+    {
+        let grouping = places_once(alloc, self.grouping())?;
+        let aggregates = aggregates_once(alloc, self.aggregates())?;
+        Ok(Plan {
+            grouping,
+            aggregates,
+        })
+    }
+
+    /// This plan with each aggregate once, in the order of their first mentions.
+    pub fn functions_once(&self, alloc: Global) -> Result<Plan, AllocError>
+        ensures { IfOk result (λ plan. plan ≡ functions_once self.now) }
+    {
+        let grouping = Vec::from_slice(alloc, self.grouping())?;
+        let aggregates = aggregates_once(alloc, self.aggregates())?;
+        Ok(Plan {
+            grouping,
+            aggregates,
+        })
+    }
+
     /// The places of the grouping columns, in GROUP BY's order.
     pub fn grouping(&self) -> &[usize]
         ensures { result.now ≡ self.now.grouping }
@@ -63,12 +88,71 @@ impl Plan {
         self.grouping.as_slice()
     }
 
-    /// The aggregates, a mention each.
+    /// The aggregates, in their order.
     pub fn aggregates(&self) -> &[Aggregate]
         ensures { result.now ≡ self.now.aggregates }
     {
         self.aggregates.as_slice()
     }
+}
+
+/// Whether a place is one of some.
+fn has_place(places: &[usize], place: usize) -> bool
+    ensures { result ≡ list_any (λ other. other == place) places.now }
+{
+    places.iter().any(|other| *other == place)
+}
+
+/// Adds a place, unless it is there.
+fn add_place_once(places: &mut Vec<usize>, place: usize) -> Result<(), AllocError>
+    ensures { OnOk result (places.new.items ≡ with_place places.old.items place) }
+{
+    if !has_place(places.as_slice(), place) {
+        places.push(place)?;
+    }
+    Ok(())
+}
+
+/// Some places, each once.
+fn places_once(alloc: Global, places: &[usize]) -> Result<Vec<usize>, AllocError>
+    ensures { IfOk result (λ once. once.items ≡ places_once places.now) }
+{
+    let mut once = Vec::new(alloc);
+    for place in places {
+        add_place_once(&mut once, *place)?;
+    }
+    Ok(once)
+}
+
+/// Whether an aggregate is one of some.
+fn has_aggregate(aggregates: &[Aggregate], aggregate: Aggregate) -> bool
+    ensures { result ≡ list_any (same_aggregate aggregate) aggregates.now }
+{
+    aggregates.iter().any(|other| aggregate.same(*other))
+}
+
+/// Adds an aggregate, unless it is there.
+fn add_aggregate_once(
+    aggregates: &mut Vec<Aggregate>,
+    aggregate: Aggregate,
+) -> Result<(), AllocError>
+    ensures { OnOk result (aggregates.new.items ≡ with_aggregate aggregates.old.items aggregate) }
+{
+    if !has_aggregate(aggregates.as_slice(), aggregate) {
+        aggregates.push(aggregate)?;
+    }
+    Ok(())
+}
+
+/// Some aggregates, each once.
+fn aggregates_once(alloc: Global, aggregates: &[Aggregate]) -> Result<Vec<Aggregate>, AllocError>
+    ensures { IfOk result (λ once. once.items ≡ aggregates_once aggregates.now) }
+{
+    let mut once = Vec::new(alloc);
+    for aggregate in aggregates {
+        add_aggregate_once(&mut once, *aggregate)?;
+    }
+    Ok(once)
 }
 
 /// Adds the place of each column.

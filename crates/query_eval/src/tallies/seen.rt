@@ -1,7 +1,7 @@
 //! The values of a group under DISTINCT, each once: a few in a list, more of them in a set.
 ghost use Rattle.std.specs.Prelude.{◌≡◌, [], cond, true, None, ℤ, IfOk, OnOk};
 ghost use Rattle.std.specs.Option.{IfSome};
-ghost use Rattle.std.specs.HashSet.{contains};
+ghost use Rattle.std.specs.HashSet.{contains, hasher_of};
 ghost use Rattle.std.specs.List.{list_any, IsDistinct};
 ghost use Rattle.std.specs.Ordering.{int_eq};
 
@@ -21,7 +21,7 @@ pub enum Content {
     Set(Box<HashSet<i64, HashKey>>),
 }
 
-/// The values of a group, each once. Contracts see them as a list, in any order.
+/// The values of a group, each once. Contracts see them as a list, in any order, with the key of the hashes that find them.
 #[derive(Drop)]
 pub struct Seen {
     content: Content,
@@ -29,14 +29,13 @@ pub struct Seen {
 }
 
 impl Model for Seen {
-    ghost use Rattle.std.specs.Prelude.{List, ℤ};
-    ghost use Rattle.query_eval.specs.Seen.{seen_in, AreApart};
+    ghost use Rattle.query_eval.specs.Seen.{seen_in, AreApart, AreHashedBy, SeenValues};
 
-    ghost Value = { List ℤ };
+    ghost Value = { SeenValues };
 
-    ghost view = { λ seen. seen_in seen.content };
+    ghost view = { λ seen. record { values = seen_in seen.content; hash_key = seen.hash_key } };
 
-    ghost invariant = { λ seen. AreApart seen.content };
+    ghost invariant = { λ seen. AreApart seen.content × AreHashedBy seen.hash_key seen.content };
 }
 
 /// The set of some values and one more.
@@ -46,7 +45,8 @@ fn set_of(
     values: &[i64],
     more: i64,
 ) -> Result<HashSet<i64, HashKey>, AllocError>
-    ensures { IfOk result (λ set. (z : ℤ) → contains int_eq set z ≡ cond (int_eq more z) true (list_any (int_eq z) values.now)) }
+    ensures values { IfOk result (λ set. (z : ℤ) → contains int_eq set z ≡ cond (int_eq more z) true (list_any (int_eq z) values.now)) }
+    ensures hasher { IfOk result (λ set. hasher_of set ≡ hash_key) }
 {
     let mut set = HashSet::with_hasher(alloc, hash_key);
     for value in values {
@@ -65,6 +65,7 @@ fn add_to_list(
     ensures list { IfOk result (λ grown. grown ≡ None → (z : ℤ) → list_any (int_eq z) list.new.items ≡ cond (int_eq value z) true (list_any (int_eq z) list.old.items)) }
     ensures apart { IsDistinct int_eq list.old.items → IsDistinct int_eq list.new.items }
     ensures set { IfOk result (λ grown. IfSome grown (λ set. (z : ℤ) → contains int_eq set.value z ≡ cond (int_eq value z) true (list_any (int_eq z) list.old.items))) }
+    ensures hasher { IfOk result (λ grown. IfSome grown (λ set. hasher_of set.value ≡ hash_key)) }
 {
     if list.as_slice().contains(&value) {
         return Ok(None);
@@ -81,7 +82,8 @@ fn add_to_list(
 impl Seen {
     /// No values. It takes no memory. If there are many, hashes of this key will find them.
     pub fn new(alloc: Global, hash_key: HashKey) -> Seen
-        ensures { result ≡ [] }
+        ensures none { result.values ≡ [] }
+        ensures hash_key { result.hash_key ≡ hash_key }
     {
         Seen {
             content: Content::List(SmallVec::new(alloc)),
@@ -91,7 +93,8 @@ impl Seen {
 
     /// Adds a value, if it is new.
     pub fn insert(&mut self, value: i64) -> Result<(), AllocError>
-        ensures { OnOk result ((z : ℤ) → list_any (int_eq z) self.new ≡ cond (int_eq value z) true (list_any (int_eq z) self.old)) }
+        ensures values { OnOk result ((z : ℤ) → list_any (int_eq z) self.new.values ≡ cond (int_eq value z) true (list_any (int_eq z) self.old.values)) }
+        ensures hash_key { self.new.hash_key ≡ self.old.hash_key }
     {
         let grown = match &mut self.content {
             Content::List(list) => add_to_list(list, self.hash_key, value)?,
@@ -108,8 +111,8 @@ impl Seen {
 
     /// The values, in any order.
     pub fn values(&self, alloc: Global) -> Result<Vec<i64>, AllocError>
-        ensures values { IfOk result (λ values. values.items ≡ self.now) }
-        ensures apart { IsDistinct int_eq self.now }
+        ensures values { IfOk result (λ values. values.items ≡ self.now.values) }
+        ensures apart { IsDistinct int_eq self.now.values }
     {
         match &self.content {
             Content::List(list) => Vec::from_slice(alloc, list.as_slice()),

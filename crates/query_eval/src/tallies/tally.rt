@@ -139,7 +139,7 @@ impl Sums {
 
 /// A set function of a set's values, which are at most 2^32.
 fn set_field(alloc: Global, fold: Fold, seen: &Seen) -> Result<Field, AllocError>
-    ensures { IfOk result (λ field. (values : List ℤ) → length values ≤ state_row_limit → AreAlike seen.now values → field ≡ fold_value fold (distinct values)) }
+    ensures { IfOk result (λ field. (values : List ℤ) → length values ≤ state_row_limit → AreAlike seen.now.values values → field ≡ fold_value fold (distinct values)) }
 {
     let values = seen.values(alloc)?;
     if values.len() > MAX_STATE_ROWS {

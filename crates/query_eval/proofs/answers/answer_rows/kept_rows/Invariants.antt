@@ -4,5 +4,5 @@ use Rattle.table_model.specs.Meaning.{is_kept}
 use Rattle.query_eval.specs.Finished.{seen_item, seen_operand}
 use Rattle.query_eval.proofs.answers.answer_rows.kept_rows.Given as goal
 
-abbrev pub invariant-loop-group : goal.invariant-loop-group
-invariant-loop-group l = l.rows.items ≡ map (λ group. map (λ item. seen_item l.schema.columns l.plan group item.value) l.items) (filter (λ group. is_kept l.having (seen_operand l.schema.columns l.plan group)) (take l.group-index l.groups))
+abbrev pub invariant-loop-index : goal.invariant-loop-index
+invariant-loop-index l = l.rows.items ≡ map (λ group. map (λ item. seen_item l.schema.columns l.plan group item.value) l.items) (filter (λ group. is_kept l.having (seen_operand l.schema.columns l.plan group)) (take l.index l.groups))

@@ -25,7 +25,7 @@ condition_masks-loop-term-preserved g t c =
     let e = terms_more c.deref-term-items.result.now c.loop-term.term-index c.term-item.result c.loop-term-test.true c.term-item.is in
     let next = moved _ table _ s c.args.id.batch c.args.id.vector one c.args.mask.now c.term_masks-next.result inv.table inv.state c.term_masks-next.ensures.value in
     record {
-      value = subst (λ (f : Formula). IsPair c.args.mask.now (truth_in table v f) c.or-pair.result) (sym e) (c.or-pair.ensures c.args.mask.now (truth_in table v front) (truth_in table v one) inv.value next);
+      value = subst (λ (f : Formula). IsPair c.args.mask.now (truth_in table v f) c.or-pair.result) (sym e) (c.or-pair.ensures.alike c.args.mask.now (truth_in table v front) (truth_in table v one) inv.value next);
       table = c.term_masks-next.ensures.read.table ∙ inv.table;
       state = c.term_masks-next.ensures.read.state ∙ inv.state;
       passes = omega (arith, ap condition_mentions e, c.term_masks-next.ensures.read.passes, inv.passes);

@@ -26,7 +26,7 @@ loop-code-preserved c =
           (record {
             index = λ h. w.in_ok-slice.ensures.index (inv.index h);
             sliced = λ by v shown h.
-                sliced_code by v c.args.mask.now c.loop-code.left w.and_not-left.result c.args.places.now.index c.loop-code.places.index w.slice_of.new.places.index c.loop-code.slices.items w.push.new.self.items slice c.args.codes.now c.args.keys.now c.args.count c.loop-code.code row
+                sliced_code by v c.args.mask.now c.loop-code.left w.and_not-left.result c.args.places.now.index.entries c.loop-code.places.index.entries w.slice_of.new.places.index.entries c.loop-code.slices.items w.push.new.self.items slice c.args.codes.now c.args.keys.now c.args.count c.loop-code.code row
                 c.requires.rises c.requires.within shown (inv.sliced by v shown h) (omega arith) w.if-next_true-lt1024.true (same row ∙ c.next_true-in-loop-code.ensures.here w.if-next_true-lt1024.true)
                 (λ n l. same n ∙ c.coded_rows-rows.ensures n l) (w.in_ok-slice.ensures.taken (inv.index h)) next w.in_ok-push.ensures.items;
             few = each_pushed (λ s. s.code < code_limit) c.loop-code.slices.items w.push.new.self.items slice w.in_ok-push.ensures.items inv.few (omega (arith, w.in_ok-slice.ensures.code, c.requires.count));

@@ -19,7 +19,7 @@ loop-run-init c = record {
   none = c.next_true-row.ensures.none;
   run = λ l. count_below-zero (λ i. has c.args.starts.now (suc i));
   index = λ h. h;
-  spanned = λ by v shown h. spanned_none by v c.args.mask.now c.args.places.now.index c.clear.new.self.items c.keeps_1024_rows.ensures c.clear.ensures.items;
+  spanned = λ by v shown h. spanned_none by v c.args.mask.now c.args.places.now.index.entries c.clear.new.self.items c.keeps_1024_rows.ensures c.clear.ensures.items;
 }
 
 pub loop-run-preserved : goal.loop-run-preserved
@@ -28,7 +28,7 @@ loop-run-preserved c =
     let mask = c.args.mask.now in
     let starts = c.args.starts.now in
     let values = c.args.values.now in
-    let old = c.args.places.now.index in
+    let old = c.args.places.now.index.entries in
     let start = c.loop-run.start in
     let row = c.loop-run.row in
     let end = c.next_true-end.result in
@@ -47,11 +47,11 @@ loop-run-preserved c =
             run = λ l. run_next starts start end order (c.next_true-end.ensures.here l) c.next_true-end.ensures.none ∙ ap (λ r. r + 1) (inv.run begun);
             index = λ h. subst IsIndex (sym w.places-is) (w.in_ok-place.ensures.index (inv.index h));
             spanned = λ by v shown h.
-                subst (λ (p : Places). AreSliced by v mask (rows_from mask end) old p.index (slices_of_spans mask c.if-row-end.spans.items)) (sym w.places-is)
+                subst (λ (p : Places). AreSliced by v mask (rows_from mask end) old p.index.entries (slices_of_spans mask c.if-row-end.spans.items)) (sym w.places-is)
                 (spanned_more by v mask start row end (Some value ∷ []) inv.order w.if-row-end.true inv.none
                 (λ n a b on. ap (λ r. Some (get_or values r (pos 0)) ∷ []) (sym (run_steady starts start end n (omega (arith, inv.order, a)) b c.next_true-end.ensures.none ∙ inv.run begun)) ∙ shown n (omega (arith, b, c.next_true-end.ensures.within)) on)
-                old c.loop-run.places.index w.of_row.new.self.index c.loop-run.spans.items c.if-row-end.spans.items w.in_ok-place.place c.next_true-end.ensures.within (inv.here (omega (arith, inv.within, c.if-row-eq1024.false))) (inv.spanned by v shown h)
-                (subst (λ (z : ℤ). IsTakenIn (Some z ∷ []) w.in_ok-place.place c.loop-run.places.index w.of_row.new.self.index) (to_z-of_z w64 value fits) (w.in_ok-place.ensures.taken (inv.index h)))
+                old c.loop-run.places.index.entries w.of_row.new.self.index.entries c.loop-run.spans.items c.if-row-end.spans.items w.in_ok-place.place c.next_true-end.ensures.within (inv.here (omega (arith, inv.within, c.if-row-eq1024.false))) (inv.spanned by v shown h)
+                (subst (λ (z : ℤ). IsTakenIn (Some z ∷ []) w.in_ok-place.place c.loop-run.places.index.entries w.of_row.new.self.index.entries) (to_z-of_z w64 value fits) (w.in_ok-place.ensures.taken (inv.index h)))
                 (ap (λ s. s.items) w.spans-is ∙ w.in_ok-push.ensures.items));
           }
       | else-row-end w ↦
@@ -64,9 +64,9 @@ loop-run-preserved c =
             run = λ l. run_next starts start end order (c.next_true-end.ensures.here l) c.next_true-end.ensures.none ∙ ap (λ r. r + 1) (inv.run begun);
             index = λ h. subst IsIndex (sym w.places-is) (inv.index h);
             spanned = λ by v shown h.
-                subst (λ (p : Places). AreSliced by v mask (rows_from mask end) old p.index (slices_of_spans mask c.if-row-end.spans.items)) (sym w.places-is)
-                (subst (λ (spans : List Span). AreSliced by v mask (rows_from mask end) old c.loop-run.places.index (slices_of_spans mask spans)) (sym (ap (λ s. s.items) w.spans-is))
-                (subst (λ (left : List Bool). AreSliced by v mask left old c.loop-run.places.index (slices_of_spans mask c.loop-run.spans.items)) (from_later mask start end (omega (arith, order)) (λ n a b. inv.none n a (omega (arith, b, past))))
+                subst (λ (p : Places). AreSliced by v mask (rows_from mask end) old p.index.entries (slices_of_spans mask c.if-row-end.spans.items)) (sym w.places-is)
+                (subst (λ (spans : List Span). AreSliced by v mask (rows_from mask end) old c.loop-run.places.index.entries (slices_of_spans mask spans)) (sym (ap (λ s. s.items) w.spans-is))
+                (subst (λ (left : List Bool). AreSliced by v mask left old c.loop-run.places.index.entries (slices_of_spans mask c.loop-run.spans.items)) (from_later mask start end (omega (arith, order)) (λ n a b. inv.none n a (omega (arith, b, past))))
                 (inv.spanned by v shown h)));
           }
     ]
@@ -75,11 +75,11 @@ loop-run-preserved c =
 pub returns-then-row-eq1024-clause-spanned : goal.returns-then-row-eq1024-clause-spanned
 returns-then-row-eq1024-clause-spanned c = λ by v shown h.
     let inv = c.loop-run.invariant in
-    subst (λ (left : List Bool). AreSliced by v c.args.mask.now left c.args.places.now.index c.loop-run.places.index (slices_of_spans c.args.mask.now c.loop-run.spans.items)) (from_none c.args.mask.now c.loop-run.start (λ n a b. inv.none n a (omega (arith, b, c.if-row-eq1024.true)))) (inv.spanned by v shown h)
+    subst (λ (left : List Bool). AreSliced by v c.args.mask.now left c.args.places.now.index.entries c.loop-run.places.index.entries (slices_of_spans c.args.mask.now c.loop-run.spans.items)) (from_none c.args.mask.now c.loop-run.start (λ n a b. inv.none n a (omega (arith, b, c.if-row-eq1024.true)))) (inv.spanned by v shown h)
 
 -- there are no more runs than rows
 pub returns-clause-spanned : goal.returns-clause-spanned
 returns-clause-spanned c = λ by v shown h.
     let inv = c.loop-run.invariant in
     let most = count_below-le (λ i. has c.args.starts.now (suc i)) c.loop-run.start in
-    subst (λ (left : List Bool). AreSliced by v c.args.mask.now left c.args.places.now.index c.loop-run.places.index (slices_of_spans c.args.mask.now c.loop-run.spans.items)) (from_none c.args.mask.now c.loop-run.start (λ n a b. absurd (omega (arith, a, b, most, inv.run (omega (arith, a, b)), c.loop-run-test.false)))) (inv.spanned by v shown h)
+    subst (λ (left : List Bool). AreSliced by v c.args.mask.now left c.args.places.now.index.entries c.loop-run.places.index.entries (slices_of_spans c.args.mask.now c.loop-run.spans.items)) (from_none c.args.mask.now c.loop-run.start (λ n a b. absurd (omega (arith, a, b, most, inv.run (omega (arith, a, b)), c.loop-run-test.false)))) (inv.spanned by v shown h)

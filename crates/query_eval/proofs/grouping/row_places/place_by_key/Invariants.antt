@@ -11,5 +11,5 @@ abbrev pub invariant-loop-row : goal.invariant-loop-row
 invariant-loop-row l = record {
   long : length l.out ≡ 1024;
   index : IsIndex l.initial.places → IsIndex l.places;
-  placed : (by : List ℕ) (v : Vector) → ((n : ℕ) → n < 1024 → has l.mask n ≡ true → map (λ d. key_cell d n) l.columns ≡ key_of by (row_at v n)) → IsIndex l.initial.places → ArePlaced l.row by v l.mask l.initial.places.index l.places.index l.out;
+  placed : (by : List ℕ) (v : Vector) → ((n : ℕ) → n < 1024 → has l.mask n ≡ true → map (λ d. key_cell d n) l.columns ≡ key_of by (row_at v n)) → IsIndex l.initial.places → ArePlaced l.row by v l.mask l.initial.places.index.entries l.places.index.entries l.out;
 }

@@ -9,5 +9,5 @@ use Rattle.query_eval.proofs.grouping.row_places.place_by_value.Given as goal
 abbrev pub invariant-loop-index : goal.invariant-loop-index
 invariant-loop-index l = record {
   index : IsIndex l.initial.places → IsIndex l.places;
-  placed : (by : List ℕ) (v : Vector) → ((n : ℕ) → n < 1024 → has l.mask n ≡ true → cond (has l.nulls n) None (Some (get_or l.values n (pos 0))) ∷ [] ≡ key_of by (row_at v n)) → IsIndex l.initial.places → ArePlaced (64 * l.index) by v l.mask l.initial.places.index l.places.index l.out;
+  placed : (by : List ℕ) (v : Vector) → ((n : ℕ) → n < 1024 → has l.mask n ≡ true → cond (has l.nulls n) None (Some (get_or l.values n (pos 0))) ∷ [] ≡ key_of by (row_at v n)) → IsIndex l.initial.places → ArePlaced (64 * l.index) by v l.mask l.initial.places.index.entries l.places.index.entries l.out;
 }

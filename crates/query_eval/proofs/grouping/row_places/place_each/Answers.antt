@@ -7,7 +7,7 @@ use Rattle.query_eval.proofs.grouping.row_places.place_each.Goals as goal
 
 pub returns-then-next_true-eq1024-clause-placed : goal.returns-then-next_true-eq1024-clause-placed
 returns-then-next_true-eq1024-clause-placed c = λ by v shown h.
-    placed_nowhere 1024 by v c.args.mask.now c.args.places.now.index c.args.out.now (λ n l. c.next_true.ensures.none n (omega arith) (omega (arith, l, c.if-next_true-eq1024.true)))
+    placed_nowhere 1024 by v c.args.mask.now c.args.places.now.index.entries c.args.out.now (λ n l. c.next_true.ensures.none n (omega arith) (omega (arith, l, c.if-next_true-eq1024.true)))
 
 pub returns-then-columns-eq1-clause-placed : goal.returns-then-columns-eq1-clause-placed
 returns-then-columns-eq1-clause-placed c = λ by v shown h.

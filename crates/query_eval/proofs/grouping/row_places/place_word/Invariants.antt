@@ -12,5 +12,5 @@ abbrev pub invariant-loop-bit : goal.invariant-loop-bit
 invariant-loop-bit l = record {
   long : length l.out ≡ 1024;
   index : IsIndex l.initial.places → IsIndex l.places;
-  placed : (by : List ℕ) (v : Vector) (mask null_rows : List Bool) (before : Entries) → ((n : ℕ) → n < 1024 → has mask n ≡ true → cond (has null_rows n) None (Some (get_or l.values n (pos 0))) ∷ [] ≡ key_of by (row_at v n)) → ((b : ℕ) → b < 64 → (bit_at l.word b == 1) ≡ has mask (l.first + b)) → ((b : ℕ) → b < 64 → (bit_at l.nulls b == 1) ≡ has null_rows (l.first + b)) → IsIndex l.initial.places → ArePlaced l.first by v mask before l.initial.places.index l.initial.out → ArePlaced (l.first + l.bit) by v mask before l.places.index l.out;
+  placed : (by : List ℕ) (v : Vector) (mask null_rows : List Bool) (before : Entries) → ((n : ℕ) → n < 1024 → has mask n ≡ true → cond (has null_rows n) None (Some (get_or l.values n (pos 0))) ∷ [] ≡ key_of by (row_at v n)) → ((b : ℕ) → b < 64 → (bit_at l.word b == 1) ≡ has mask (l.first + b)) → ((b : ℕ) → b < 64 → (bit_at l.nulls b == 1) ≡ has null_rows (l.first + b)) → IsIndex l.initial.places → ArePlaced l.first by v mask before l.initial.places.index.entries l.initial.out → ArePlaced (l.first + l.bit) by v mask before l.places.index.entries l.out;
 }

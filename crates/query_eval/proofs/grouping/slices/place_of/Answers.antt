@@ -19,4 +19,4 @@ returns-then-columns-eq1-clause-taken c = λ h.
     let fits : FitsSigned w64 (get_or column.values row (pos 0)) = search rules in
     let cell : cond c.get.result None (Some (to_z w64 (of_z w64 (get_or column.values row (pos 0))))) ≡ key_cell column row =
     ap (λ b. cond b None (Some (to_z w64 (of_z w64 (get_or column.values row (pos 0)))))) c.get.ensures ∙ ap (λ z. cond (has column.nulls row) None (Some z)) (to_z-of_z w64 (get_or column.values row (pos 0)) fits) in
-    subst (λ (k : Cells). IsTakenIn k c.in_ok-place.place c.args.places.now.index c.of_row.new.self.index) (ap (λ x. x ∷ []) cell ∙ only_one (λ d. key_cell d row) columns column one at) (c.in_ok-place.ensures.taken h)
+    subst (λ (k : Cells). IsTakenIn k c.in_ok-place.place c.args.places.now.index.entries c.of_row.new.self.index.entries) (ap (λ x. x ∷ []) cell ∙ only_one (λ d. key_cell d row) columns column one at) (c.in_ok-place.ensures.taken h)

@@ -9,6 +9,6 @@ use Rattle.query_eval.proofs.tallies.distinct.add_values.Given as goal
 
 abbrev pub invariant-loop-row : goal.invariant-loop-row
 invariant-loop-row l = record {
-  values : (z : ℤ) → list_any (int_eq z) l.seen ≡ (list_any (int_eq z) l.initial.seen || list_any (int_eq z) (present (take l.row (rows_of (λ n. cond (has l.rows n) (Some (slice_index_or l.values n (pos 0))) None)))));
-  before : IfSome l.before (λ last. list_any (int_eq last) l.seen ≡ true);
+  values : (z : ℤ) → list_any (int_eq z) l.seen.values ≡ (list_any (int_eq z) l.initial.seen.values || list_any (int_eq z) (present (take l.row (rows_of (λ n. cond (has l.rows n) (Some (slice_index_or l.values n (pos 0))) None)))));
+  before : IfSome l.before (λ last. list_any (int_eq last) l.seen.values ≡ true);
 }

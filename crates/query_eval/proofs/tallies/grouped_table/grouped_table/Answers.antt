@@ -16,7 +16,7 @@ returns c = λ table rows grouped few groups.
     let tallies = c.args.groups.tallies.items in
     let entries = c.in_ok-entries.entries.items in
     let named = c.args.plan.now.aggregates in
-    let known = groups_alike by named rows c.args.groups.places.index entries tallies c.in_ok-entries.ensures.places c.in_ok-entries.ensures.len groups in
+    let known = groups_alike by named rows c.args.groups.places.index.entries entries tallies c.in_ok-entries.ensures.places c.in_ok-entries.ensures.len groups in
     let shown =
     subst (λ (l : List (Vec Tally)). AreGroups by named rows entries l) (sym c.as_slice.ensures.value) known in
     c.in_ok-finished.ensures table by rows few (subst (λ (these : List Aggregate). AreGroups by these rows entries c.as_slice.result.now) (sym c.aggregates.ensures) shown)

@@ -14,4 +14,4 @@ returns-in_ok-none c =
     let by = c.args.plan.now.grouping in
     let groups = c.in_ok-none.field-0 in
     let some : 1 ≤ length by = some_of by (ap (λ (xs : List ℕ). length xs == 0) (sym c.grouping.ensures) ∙ sym c.is_empty.ensures ∙ c.if-is_empty.false) in
-    (some, (c.in_ok-none.ensures.index, subst (λ (named : List Aggregate). AreGroups by named [] groups.places.index groups.tallies.items) c.aggregates-else-is_empty.ensures (c.in_ok-none.ensures.groups by)))
+    (some, (c.in_ok-none.ensures.index, subst (λ (named : List Aggregate). AreGroups by named [] groups.places.index.entries groups.tallies.items) c.aggregates-else-is_empty.ensures (c.in_ok-none.ensures.groups by)))

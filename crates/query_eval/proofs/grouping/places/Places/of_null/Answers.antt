@@ -4,7 +4,7 @@ use Rattle.query_eval.proofs.PlaceLemmas.{index_null, taken_known}
 use Rattle.query_eval.proofs.grouping.places.Places.of_null.Goals as goal
 
 pub returns-in-Some-clause-taken : goal.returns-in-Some-clause-taken
-returns-in-Some-clause-taken c = λ h. taken_known (None ∷ []) c.in-Some.place c.args.self.now.index (h.null c.in-Some.place c.in-Some.is)
+returns-in-Some-clause-taken c = λ h. taken_known (None ∷ []) c.in-Some.place c.args.self.now.index.entries (h.null c.in-Some.place c.in-Some.is)
 
 pub returns-clause-index : goal.returns-clause-index
 returns-clause-index c = λ h.

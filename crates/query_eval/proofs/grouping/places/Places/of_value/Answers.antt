@@ -19,14 +19,14 @@ returns-then-recent-value-clause-taken c = λ h.
     let slot = c.slot_of-slot.result in
     let within = (Decides-ltb slot (length c.deref.result.now)).0 (sym c.in-Some-Some.ensures.lookup.0) in
     let at = ap (λ (es : List (Option Recent)). get_or es slot None) (sym c.deref.ensures.value) ∙ entry_at c.deref.result.now slot c.in-Some-Some.field-0.now recent within c.in-Some-Some.ensures.lookup.1 c.in-Some-Some.field-0-is in
-    taken_known (Some c.args.value ∷ []) recent.place c.args.self.now.index (ap (λ (z : ℤ). place_in c.args.self.now.index (Some z ∷ [])) (sym same) ∙ h.recent c.slot_of-slot.result recent at)
+    taken_known (Some c.args.value ∷ []) recent.place c.args.self.now.index.entries (ap (λ (z : ℤ). place_in c.args.self.now.index.entries (Some z ∷ [])) (sym same) ∙ h.recent c.slot_of-slot.result recent at)
 
 pub returns-clause-index : goal.returns-clause-index
 returns-clause-index c = λ h.
     let wide : FitsSigned w128 c.from.result = search rules in
     let value : FitsSigned w64 c.args.value = search rules in
     let from = simp to_z-of_z at c.from.ensures in
-    let now = subst (λ (z : ℤ). place_in c.of_cell.new.self.index (Some z ∷ []) ≡ Some c.in_ok-place.place) (to_z-of_z w128 c.from.result wide ∙ from) c.in_ok-place.ensures.taken.now in
+    let now = subst (λ (z : ℤ). place_in c.of_cell.new.self.index.entries (Some z ∷ []) ≡ Some c.in_ok-place.place) (to_z-of_z w128 c.from.result wide ∙ from) c.in_ok-place.ensures.taken.now in
     let remembered =
     subst (λ (z : ℤ). (i : ℕ) (r : Recent) → get_or c.remember.new.recent.items i None ≡ Some r → (r ≡ record { value = z; place = c.in_ok-place.place }) ⊎ (get_or c.of_cell.new.self.recent.items i None ≡ Some r)) (to_z-of_z w64 c.args.value value) c.remember.ensures in
     let before : IsIndex c.match-get.self = subst IsIndex (sym kept) h in

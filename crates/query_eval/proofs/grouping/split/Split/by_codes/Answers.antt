@@ -14,6 +14,6 @@ returns-clause-codes c = record {
 pub returns-clause-placed : goal.returns-clause-placed
 returns-clause-placed c = λ by v shown h.
     let kept = c.args.self.now.kept in
-    split_whole by v kept c.args.places.now.index c.slice_codes.new.places.index _
-    (subst (AreSliced by v kept c.in_ok-left.left c.args.places.now.index c.slice_codes.new.places.index) (slices_alone kept c.clear.new.self.items c.slice_codes.new.slices.items c.clear.ensures.items) (c.in_ok-left.ensures.sliced by v shown h))
+    split_whole by v kept c.args.places.now.index.entries c.slice_codes.new.places.index.entries _
+    (subst (AreSliced by v kept c.in_ok-left.left c.args.places.now.index.entries c.slice_codes.new.places.index.entries) (slices_alone kept c.clear.new.self.items c.slice_codes.new.slices.items c.clear.ensures.items) (c.in_ok-left.ensures.sliced by v shown h))
     c.in_ok-left.ensures.none

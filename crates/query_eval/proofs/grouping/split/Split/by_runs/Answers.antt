@@ -13,7 +13,7 @@ pub returns-clause-placed : goal.returns-clause-placed
 returns-clause-placed c = λ by v shown h.
     let kept = c.args.self.now.kept in
     let spans = c.span_runs.new.spans.items in
-    split_whole by v kept c.args.places.now.index c.span_runs.new.places.index _
-    (subst (AreSliced by v kept c.none-self.result c.args.places.now.index c.span_runs.new.places.index) (spans_alone kept spans c.clear.new.self.items c.clear.ensures.items)
-    (subst (λ (left : List Bool). AreSliced by v kept left c.args.places.now.index c.span_runs.new.places.index (slices_of_spans kept spans)) (sym c.none-self.ensures) (c.in_ok-span_runs.ensures.spanned by v shown h)))
+    split_whole by v kept c.args.places.now.index.entries c.span_runs.new.places.index.entries _
+    (subst (AreSliced by v kept c.none-self.result c.args.places.now.index.entries c.span_runs.new.places.index.entries) (spans_alone kept spans c.clear.new.self.items c.clear.ensures.items)
+    (subst (λ (left : List Bool). AreSliced by v kept left c.args.places.now.index.entries c.span_runs.new.places.index.entries (slices_of_spans kept spans)) (sym c.none-self.ensures) (c.in_ok-span_runs.ensures.spanned by v shown h)))
     (λ n l. ap (λ m. has m n) c.none-self.ensures ∙ has-rows_of (λ _. false) n l)
