@@ -33,7 +33,7 @@ pub use laws::{
 pub use length::Length;
 pub use offer_reading::read_offer;
 pub use offer_writing::write_offer;
-pub use opening::{Checked, check, open, open_bytes};
+pub use opening::{open, open_bytes};
 pub use schema_reading::read_schema;
 pub use schema_writing::write_schema;
 pub use skimming::{Skimmed, skim};

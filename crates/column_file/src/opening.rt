@@ -22,15 +22,6 @@ use std::alloc::Global;
 use std::io::Read;
 use table_model::{BatchName, Counted, Origin, Refusal, RowName, Schema};
 
-/// What a canonical file has.
-#[derive(Clone, Copy, Debug, PartialEq, Eq)]
-pub struct Checked {
-    /// How many batches, at most 1,048,576.
-    pub batches: u32,
-    /// How many maximal ranges of deleted rows.
-    pub ranges: u64,
-}
-
 /// Whether two ranges are the same.
 fn same_range(a: (RowName, u16), b: (RowName, u16)) -> bool
     ensures { result ≡ is_same_range a b }
@@ -112,17 +103,4 @@ pub fn open_bytes(alloc: Global, bytes: &[u8], own: Origin) -> Result<Store, Ref
     }
     let offer = canonical_in(alloc, bytes)?;
     offer.into_store(alloc, own)
-}
-
-/// How many batches and ranges a canonical file has, under the same refusals as [`open`] with a proper own origin.
-pub fn check<R: Read>(alloc: Global, reader: &mut Counted<R>) -> Result<Checked, Refusal>
-    ensures read { Judges (λ checked. (checked.batches, checked.ranges)) result (R.remaining reader.old.0) checked_from }
-    ensures reads { ReadsWhole R.remaining is_refusal_of_reading reader.old reader.new result }
-{
-    let input = read_input(alloc, reader)?;
-    let offer = canonical_in(alloc, input.as_slice())?;
-    Ok(Checked {
-        batches: offer.batches() as u32,
-        ranges: offer.tombs().ranges().len() as u64,
-    })
 }

@@ -4,7 +4,7 @@
 //! counts those texts.
 use crate::file_tests::{THREE_ROWS, ZEROS, changed, opened};
 use crate::tests::TWO_NAMES;
-use column_file::{check, export, open, read_offer, read_summary};
+use column_file::{export, open, read_offer, read_summary};
 use replica_store::{Offer, Store};
 use segment_core::Coding;
 use std::alloc::Global;
@@ -82,31 +82,24 @@ fn a_refused_open_gives_no_store(rt: HostRuntime) -> Result<(), Fail> {
     is_read(&rt, rt.alloc(), Reading::Open, &bytes)
 }
 
-/// What checking a file ends as, which is refused so or not at all, and what is left if a growth is refused.
-fn is_checked(alloc: Global, bytes: &[u8], wanted: Option<Refusal>) -> Result<(), Fail> {
+/// What opening a file that is not canonical ends as, which is refused so, and what is left if a growth is refused.
+fn is_refused(alloc: Global, bytes: &[u8], wanted: Refusal) -> Result<(), Fail> {
     let mut reader = Counted::new(bytes);
-    let found = check(alloc, &mut reader).err();
-    if found == wanted {
-        return Ok(());
-    }
-    let Some(fault) = found else {
+    let Some(fault) = open(alloc, &mut reader, Origin(1)).err() else {
         return growth_refused(false);
     };
-    let again = check(alloc, &mut Counted::new(bytes)).err();
-    refused(fault, reader.failures(), again == wanted)
-}
-
-#[test]
-fn a_refused_check_counts_nothing(rt: HostRuntime) -> Result<(), Fail> {
-    let bytes = changed(rt.alloc(), &THREE_ROWS)?;
-    is_checked(rt.alloc(), &bytes, None)
+    if fault == wanted {
+        return Ok(());
+    }
+    let again = open(alloc, &mut Counted::new(bytes), Origin(1)).err();
+    refused(fault, reader.failures(), again == Some(wanted))
 }
 
 // FOR of width 1 in the place of width 0: the vector is put into its canonical form where it lies, and the file is compared.
 #[test]
-fn a_refused_check_of_another_form_is_not_judged(rt: HostRuntime) -> Result<(), Fail> {
+fn a_refused_open_of_another_form_is_not_judged(rt: HostRuntime) -> Result<(), Fail> {
     let bytes = changed(rt.alloc(), &(29, 34, &[(b"\x01\0\0\x07", 129)]))?;
-    is_checked(rt.alloc(), &bytes, Some(Refusal::NotCanonical(29)))
+    is_refused(rt.alloc(), &bytes, Refusal::NotCanonical(29))
 }
 
 #[test]

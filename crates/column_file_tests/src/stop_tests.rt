@@ -1,7 +1,7 @@
 //! Reading and writing files and messages when the reader or the writer stops at a byte.
 use crate::file_tests::{ONE_ROW, offer_from, opened};
 use crate::tests::TWO_NAMES;
-use column_file::{check, export, open, read_offer, read_summary, write_offer, write_summary};
+use column_file::{export, open, read_offer, read_summary, write_offer, write_summary};
 use std::alloc::Global;
 use std::test::Fail;
 use table_model::{Counted, Origin, Refusal};
@@ -11,7 +11,6 @@ use test_support::{Stop, agree, agree_at};
 #[derive(Clone, Copy)]
 enum Reading {
     Open,
-    Check,
     Offer,
     Summary,
 }
@@ -19,11 +18,6 @@ enum Reading {
 /// What opening a file is refused as.
 fn open_fault(alloc: Global, reader: &mut Counted<Stop<&[u8]>>) -> Option<Refusal> {
     open(alloc, reader, Origin(1)).err()
-}
-
-/// What checking a file is refused as.
-fn check_fault(alloc: Global, reader: &mut Counted<Stop<&[u8]>>) -> Option<Refusal> {
-    check(alloc, reader).err()
 }
 
 /// What reading an offer is refused as.
@@ -40,7 +34,6 @@ fn summary_fault(alloc: Global, reader: &mut Counted<Stop<&[u8]>>) -> Option<Ref
 fn read_fault(alloc: Global, call: Reading, reader: &mut Counted<Stop<&[u8]>>) -> Option<Refusal> {
     match call {
         Reading::Open => open_fault(alloc, reader),
-        Reading::Check => check_fault(alloc, reader),
         Reading::Offer => offer_fault(alloc, reader),
         Reading::Summary => summary_fault(alloc, reader),
     }
@@ -53,9 +46,8 @@ fn read_until(alloc: Global, call: Reading, bytes: &[u8], left: usize) -> (Optio
     (fault, reader.failures())
 }
 
-const READINGS: [(Reading, &[u8]); 4] = [
+const READINGS: [(Reading, &[u8]); 3] = [
     (Reading::Open, ONE_ROW),
-    (Reading::Check, ONE_ROW),
     (Reading::Offer, ONE_ROW),
     (Reading::Summary, TWO_NAMES),
 ];

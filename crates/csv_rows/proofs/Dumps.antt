@@ -18,7 +18,7 @@ use Rattle.table_model.specs.declared.refusal.Refusal.TheVariants.{BadSchema}
 use Rattle.table_model.specs.declared.schema.ColType.{ColType}
 use Rattle.table_model.specs.declared.schema.ColType.TheVariants.{TinyInt, SmallInt, Integer, BigInt}
 use Rattle.table_model.proofs.SameTable.{itself_text}
-use Rattle.csv_rows.specs.Line.{TextLine, line_limit, before_last, text_or, ended, lines_between, lines_of, unmarked}
+use Rattle.csv_rows.specs.Line.{line_limit, before_last, text_or, ended, lines_between, lines_of, unmarked}
 use Rattle.table_model.specs.Pieces.{pieces, onto_first, without}
 use Rattle.table_model.specs.Numeral.{is_numeral, magnitude_of, value_digits, integer_of, signed_of}
 use Rattle.csv_rows.specs.Field.{fields_of, unquoted, is_null_word, value_of, cell_of, fitting, cell_in}

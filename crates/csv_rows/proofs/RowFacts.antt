@@ -1,5 +1,5 @@
 -- Rows are read line by line: those of the first line stand before those of the lines that follow, and its fault is the first one.
-use Rattle.std.specs.Prelude.{◌≡◌, ◌⊎◌, ℕ, zero, suc, ◌<◌, Bool, true, false, cond, ◌==◌, ◌&&◌, not, nat_lt, int_le, List, [], ◌∷◌, ◌++◌, length, set, slice_get, Option, Some, None, option_and_then, Result, Ok, Err, IfErr, ℤ}
+use Rattle.std.specs.Prelude.{◌≡◌, ◌⊎◌, ℕ, zero, suc, ◌<◌, Bool, true, false, cond, nat_lt, int_le, List, [], ◌∷◌, ◌++◌, length, set, slice_get, Option, Some, None, option_and_then, Result, Ok, Err, IfErr, ℤ}
 use Rattle.std.specs.Bool.{passes}
 use Rattle.std.specs.Int.Signed.{le_z_yes}
 use Rattle.std.proofs.Common.{refl, sym, ap, ◌∙◌, arith, append_assoc, subst, inl, inr}
@@ -13,7 +13,7 @@ use Rattle.csv_rows.specs.Line.{TextLine, line_limit}
 use Rattle.csv_rows.specs.LineReading.{FirstTooLong}
 use Rattle.csv_rows.specs.Field.{fields_of, cell_of, cell_in, fitting}
 use Rattle.csv_rows.specs.DialectForm.{DialectForm}
-use Rattle.csv_rows.specs.CsvText.{◌>>=◌, in_line, place_named, new_place, is_cut, may_name, is_passed, row_of, uncut_row, has_each, width_of, each_of, named_order, unless_row, cell_at, or_at, with_field, filled, null_row, line_rows, before_rows, rows_from, order_from, header_order, header_rows}
+use Rattle.csv_rows.specs.CsvText.{◌>>=◌, in_line, place_named, new_place, is_cut, may_name, is_passed, row_of, uncut_row, has_each, each_of, named_order, unless_row, cell_at, or_at, with_field, filled, null_row, line_rows, before_rows, rows_from, order_from, header_order, header_rows}
 use Rattle.csv_rows.specs.Outcome.{ReadsCsv}
 use Rattle.csv_rows.specs.Reading.{Counts}
 use Rattle.csv_rows.specs.declared.error.CsvError.{CsvError}

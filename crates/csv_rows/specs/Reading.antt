@@ -53,6 +53,18 @@ AsKnown holds (Some bytes) (Some rest) = holds bytes rest
 abbrev pub Gave : Reading → Reading → Batch → Option (List ℕ) → Option (List ℕ) → Type 0
 Gave old new rows before after = AsKnown (λ bytes rest. to_come old bytes ≡ before_rows rows (to_come new rest)) before after
 
+-- the next rows were read behind those that were there
+abbrev pub Filled : Reading → Reading → Batch → Batch → Option (List ℕ) → Option (List ℕ) → Type 0
+Filled old new rows rows' before after = (made : Batch) × (rows' ≡ rows ++ made) × Gave old new made before after
+
+-- each line that was read is counted
+abbrev pub CountsOn : Reading → Reading → Option (List ℕ) → Option (List ℕ) → Type 0
+CountsOn old new before after = AsKnown (λ bytes rest. old.number + length (lines_of (old.pending ++ bytes)) ≡ new.number + length (lines_of (new.pending ++ rest))) before after
+
+-- no line is left, so that what comes next begins a line
+abbrev pub IsAtLine : Reading → Option (List ℕ) → Option (List ℕ) → Type 0
+IsAtLine new before after = AsKnown (λ bytes rest. lines_of (new.pending ++ rest) ≡ []) before after
+
 -- no rows are to come any more, and no fault
 abbrev pub NothingToCome : Reading → Option (List ℕ) → Option (List ℕ) → Type 0
 NothingToCome new before after = AsKnown (λ bytes rest. to_come new rest ≡ Ok []) before after

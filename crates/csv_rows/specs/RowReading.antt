@@ -1,5 +1,5 @@
 -- How rows are read of lines, where the bytes are known.
-use Rattle.std.specs.Prelude.{◌≡◌, ℕ, suc, List, [], ◌++◌, Option, Result, Ok, Err}
+use Rattle.std.specs.Prelude.{◌≡◌, ℕ, suc, ◌+◌, List, [], ◌++◌, length, Option, Result, Ok, Err}
 use Rattle.table_model.specs.State.{Batch}
 use Rattle.table_model.specs.Table.{ColumnShape}
 use Rattle.csv_rows.specs.DialectForm.{DialectForm}
@@ -32,3 +32,11 @@ RefusesLines dialect columns order old fault before = AsKnown (λ bytes rest. li
 abbrev pub RefusesHeader : DialectForm → List ColumnShape → LinesForm → CsvError → Option (List ℕ) → Type 0
 RefusesHeader dialect columns old (Refused refusal) before = Unit {0}
 RefusesHeader dialect columns old fault before = AsKnown (λ bytes rest. header_rows dialect columns (lines_of (old.pending ++ bytes)) ≡ Err fault) before before
+
+-- each line that was read is counted
+abbrev pub CountsLines : LinesForm → LinesForm → Option (List ℕ) → Option (List ℕ) → Type 0
+CountsLines old new before after = AsKnown (λ bytes rest. old.number + length (lines_of (old.pending ++ bytes)) ≡ new.number + length (lines_of (new.pending ++ rest))) before after
+
+-- no line is left, so that what comes next begins a line
+abbrev pub IsBetweenLines : LinesForm → Option (List ℕ) → Option (List ℕ) → Type 0
+IsBetweenLines lines before after = AsKnown (λ bytes rest. lines_of (lines.pending ++ rest) ≡ []) before after

@@ -3,11 +3,11 @@ ghost use Rattle.std.specs.Prelude.{◌≡◌, ◌<◌, ◌≤◌, ◌+◌, ◌+
 ghost use Rattle.std.specs.Io.KnownBytes.{IsAtEnd};
 ghost use Rattle.table_model.specs.Faults.{read_limit};
 ghost use Rattle.table_model.specs.Table.{AreRows, row_limit};
-ghost use Rattle.csv_rows.specs.Reading.{at_start, at_start_in, to_come, AsKnown, Gave, NothingToCome, Refuses, Came, Counts, ReadsOnward};
+ghost use Rattle.csv_rows.specs.Reading.{at_start, at_start_in, to_come, AsKnown, CountsOn, Filled, Gave, IsAtLine, NothingToCome, Refuses, Came, Counts, ReadsOnward};
 ghost use Rattle.csv_rows.specs.CsvText.{is_cut, header_rows, rows_from};
 ghost use Rattle.csv_rows.specs.FaultyField.{field_at, faulty_field, shown, column_of};
 ghost use Rattle.csv_rows.specs.Line.{lines_of, text_line};
-ghost use Rattle.csv_rows.specs.RowReading.{ReadsOn, RefusesLines, RefusesHeader, NoLines};
+ghost use Rattle.csv_rows.specs.RowReading.{CountsLines, IsBetweenLines, ReadsOn, RefusesLines, RefusesHeader, NoLines};
 
 use crate::bytes::first_field;
 use crate::dialect::Dialect;
@@ -100,13 +100,46 @@ impl CsvReader {
         ensures kept { OnOk result (reader.new.1 ≡ reader.old.1) }
         ensures counts { IfErr result (λ e. Counts (read_limit < self.new.given) e reader.old.1 reader.new.1) }
     {
+        let mut rows = Rows::new(alloc);
+        self.fill_batch(alloc, reader, &mut rows)?;
+        Ok(rows)
+    }
+
+    /// Reads rows behind those that are there, fewer than 65,536, until there are 65,536, or until the reader below has no more bytes. If these end
+    /// with a line's end, the text may go on: the next call reads on from another reader.
+    ///
+    /// Refused is what [`CsvReader::next_batch`] refuses. Some rows may be behind those that were there then.
+    pub fn fill_batch<R: Read>(
+        &mut self,
+        alloc: Global,
+        reader: &mut Counted<R>,
+        rows: &mut Rows,
+    ) -> Result<(), CsvError>
+        requires few { length rows.old < row_limit }
+        ensures rows { OnOk result (Filled self.old self.new rows.old rows.new (R.remaining reader.old.0) (R.remaining reader.new.0)) }
+        ensures fits { OnOk result (AreRows self.old.table.columns rows.old → AreRows self.old.table.columns rows.new) }
+        ensures limit { OnOk result (length rows.new ≤ row_limit) }
+        ensures end { OnOk result (length rows.new < row_limit → NothingToCome self.new (R.remaining reader.old.0) (R.remaining reader.new.0)) }
+        ensures further { OnOk result (self.old.number + length rows.new ≤ self.new.number + length rows.old) }
+        ensures bound { OnOk result (self.new.number ≤ read_limit) }
+        ensures table { self.new.table ≡ self.old.table }
+        ensures dialect { self.new.dialect ≡ self.old.dialect }
+        ensures fault { IfErr result (λ e. Refuses self.old e (R.remaining reader.old.0)) }
+        ensures came { Came self.old.given self.new.given (R.remaining reader.old.0) (R.remaining reader.new.0) }
+        ensures within { OnOk result (self.new.given ≤ read_limit) }
+        ensures kept { OnOk result (reader.new.1 ≡ reader.old.1) }
+        ensures counts { IfErr result (λ e. Counts (read_limit < self.new.given) e reader.old.1 reader.new.1) }
+        ensures order { IsSome self.old.order → self.new.order ≡ self.old.order }
+        ensures counted { OnOk result (IsSome self.old.order → CountsOn self.old self.new (R.remaining reader.old.0) (R.remaining reader.new.0)) }
+        ensures between { OnOk result (IsSome self.old.order → length rows.new < row_limit → IsAtLine self.new (R.remaining reader.old.0) (R.remaining reader.new.0)) }
+    {
         if self.lines.given() > READ_LIMIT {
             return Err(CsvError::Refused(Refusal::ReadFault));
         }
         if self.order.is_none() {
             self.begin(alloc, reader)?;
         }
-        self.rows(alloc, reader)
+        self.more_rows(alloc, reader, rows)
     }
 
     /// The line that was read last, without its end: after `BadCsv` the line at fault, which is empty if there is no header.
@@ -180,33 +213,43 @@ impl CsvReader {
         Ok(())
     }
 
-    /// Reads the next rows, once the order of the columns is known.
-    fn rows<R: Read>(&mut self, alloc: Global, reader: &mut Counted<R>) -> Result<Rows, CsvError>
+    /// Reads rows behind those that are there, once the order of the columns is known.
+    fn more_rows<R: Read>(
+        &mut self,
+        alloc: Global,
+        reader: &mut Counted<R>,
+        rows: &mut Rows,
+    ) -> Result<(), CsvError>
         requires begun { IsSome self.old.order }
         requires within { self.old.given ≤ read_limit }
-        ensures rows { IfOk result (λ rows. Gave self.old self.new rows (R.remaining reader.old.0) (R.remaining reader.new.0)) }
-        ensures fits { IfOk result (λ rows. AreRows self.old.table.columns rows) }
-        ensures limit { IfOk result (λ rows. length rows ≤ row_limit) }
-        ensures end { IfOk result (λ rows. length rows < row_limit → NothingToCome self.new (R.remaining reader.old.0) (R.remaining reader.new.0)) }
-        ensures further { IfOk result (λ rows. self.old.number + length rows ≤ self.new.number) }
+        requires few { length rows.old < row_limit }
+        ensures rows { OnOk result (Filled self.old self.new rows.old rows.new (R.remaining reader.old.0) (R.remaining reader.new.0)) }
+        ensures fits { OnOk result (AreRows self.old.table.columns rows.old → AreRows self.old.table.columns rows.new) }
+        ensures limit { OnOk result (length rows.new ≤ row_limit) }
+        ensures end { OnOk result (length rows.new < row_limit → NothingToCome self.new (R.remaining reader.old.0) (R.remaining reader.new.0)) }
+        ensures further { OnOk result (self.old.number + length rows.new ≤ self.new.number + length rows.old) }
         ensures bound { OnOk result (self.new.number ≤ read_limit) }
         ensures table { self.new.table ≡ self.old.table }
         ensures dialect { self.new.dialect ≡ self.old.dialect }
         ensures fault { IfErr result (λ e. Refuses self.old e (R.remaining reader.old.0)) }
         ensures reads { ReadsOnward R.remaining Counts self.old.given self.new.given reader.old reader.new result }
         ensures within { OnOk result (self.new.given ≤ read_limit) }
+        ensures order { self.new.order ≡ self.old.order }
+        ensures counted { OnOk result (CountsOn self.old self.new (R.remaining reader.old.0) (R.remaining reader.new.0)) }
+        ensures between { OnOk result (length rows.new < row_limit → IsAtLine self.new (R.remaining reader.old.0) (R.remaining reader.new.0)) }
     {
         let Some(order) = &self.order else {
-            return Ok(Rows::new(alloc));
+            return Ok(());
         };
         let columns = self.schema.column_list();
-        read_rows(
+        fill_rows(
             alloc,
             &self.dialect,
             columns,
             order.fields(),
             &mut self.lines,
             reader,
+            rows,
         )
     }
 }
@@ -253,6 +296,8 @@ fn read_line<R: Read>(
     ensures bound { OnOk result (lines.new.number ≤ read_limit) }
     ensures reads { ReadsOnward R.remaining Counts lines.old.given lines.new.given reader.old reader.new result }
     ensures within { OnOk result (lines.new.given ≤ read_limit) }
+    ensures counted { OnOk result (CountsLines lines.old lines.new (R.remaining reader.old.0) (R.remaining reader.new.0)) }
+    ensures between { IfOk result (λ found. IsFalse found → IsBetweenLines lines.new (R.remaining reader.old.0) (R.remaining reader.new.0)) }
 {
     match lines.advance(reader)? {
         Found::Line => {
@@ -266,36 +311,37 @@ fn read_line<R: Read>(
     }
 }
 
-/// Reads rows until there are 65,536, or no more lines.
-fn read_rows<R: Read>(
+/// Reads rows behind those that are there until there are 65,536, or no more lines.
+fn fill_rows<R: Read>(
     alloc: Global,
     dialect: &Dialect,
     columns: &[Column],
     order: &[Option<usize>],
     lines: &mut Lines,
     reader: &mut Counted<R>,
-) -> Result<Rows, CsvError>
-    requires { lines.old.given ≤ read_limit }
-    ensures rows { IfOk result (λ rows. ReadsOn dialect.now columns.now order.now lines.old lines.new [] rows (R.remaining reader.old.0) (R.remaining reader.new.0)) }
-    ensures fits { IfOk result (λ rows. AreRows columns.now rows) }
-    ensures limit { IfOk result (λ rows. length rows ≤ row_limit) }
-    ensures end { IfOk result (λ rows. length rows < row_limit → NoLines dialect.now columns.now order.now lines.new (R.remaining reader.old.0) (R.remaining reader.new.0)) }
-    ensures further { IfOk result (λ rows. lines.old.number + length rows ≤ lines.new.number) }
+    rows: &mut Rows,
+) -> Result<(), CsvError>
+    requires given { lines.old.given ≤ read_limit }
+    requires few { length rows.old < row_limit }
+    ensures rows { OnOk result (ReadsOn dialect.now columns.now order.now lines.old lines.new rows.old rows.new (R.remaining reader.old.0) (R.remaining reader.new.0)) }
+    ensures fits { OnOk result (AreRows columns.now rows.old → AreRows columns.now rows.new) }
+    ensures limit { OnOk result (length rows.new ≤ row_limit) }
+    ensures end { OnOk result (length rows.new < row_limit → NoLines dialect.now columns.now order.now lines.new (R.remaining reader.old.0) (R.remaining reader.new.0)) }
+    ensures further { OnOk result (lines.old.number + length rows.new ≤ lines.new.number + length rows.old) }
     ensures bound { OnOk result (lines.new.number ≤ read_limit) }
     ensures fault { IfErr result (λ e. RefusesLines dialect.now columns.now order.now lines.old e (R.remaining reader.old.0)) }
     ensures reads { ReadsOnward R.remaining Counts lines.old.given lines.new.given reader.old reader.new result }
     ensures within { OnOk result (lines.new.given ≤ read_limit) }
+    ensures counted { OnOk result (CountsLines lines.old lines.new (R.remaining reader.old.0) (R.remaining reader.new.0)) }
+    ensures between { OnOk result (length rows.new < row_limit → IsBetweenLines lines.new (R.remaining reader.old.0) (R.remaining reader.new.0)) }
 {
-    let mut rows = Rows::new(alloc);
     let mut cells = Vec::new(alloc);
     for _turn in 0..TURNS {
-        if !read_line(
-            dialect, columns, order, lines, reader, &mut cells, &mut rows,
-        )? {
-            return Ok(rows);
+        if !read_line(dialect, columns, order, lines, reader, &mut cells, rows)? {
+            return Ok(());
         }
         if rows.len() >= MAX_ROWS {
-            return Ok(rows);
+            return Ok(());
         }
     }
     Err(CsvError::Refused(Refusal::ReadFault))

@@ -345,10 +345,31 @@ impl Store {
         requires { IsOk (merged self.old.replica other.replica) }
         ensures replica { OnOk result (merged self.old.replica other.replica ≡ Ok (tt, self.new.replica)) }
         ensures segments { OnOk result (self.new.segments ≡ union_of self.old.segments other.segments) }
+        ensures kept { OnErr result (self.new ≡ self.old) }
     {
         let Store { batches, tombs, .. } = other;
         let (entries, names) = batches.into_entries()?;
         self.move_all(alloc, entries, &names, &tombs)
+    }
+
+    /// Adds the other store's batches and deletions, as [`merge`](Store::merge) does, with the same refusals. Its segments are moved, so none is
+    /// copied. A refused call leaves the store as it was.
+    pub fn take(&mut self, alloc: Global, other: Store) -> Result<(), Refusal>
+        ensures acts { Acts (λ done. done) self.old.replica result self.new.replica (merged self.old.replica other.replica) }
+        ensures segments { OnOk result (self.new.segments ≡ union_of self.old.segments other.segments) }
+        ensures refused { OnErr result (self.new ≡ self.old) }
+    {
+        self.merge_refusal(&other)?;
+        self.join(alloc, other)?;
+        Ok(())
+    }
+
+    /// Why another store is refused in a merge, if it is.
+    fn merge_refusal(&self, other: &Store) -> Result<(), Refusal>
+        ensures { result ≡ unless (merge_fault self.now.replica other.now.replica) }
+    {
+        let (first, second) = other.batches.parts();
+        self.merge_fault(&other.schema, first, second)
     }
 
     /// The names of the batches that are held, from which another replica sees what to offer. `Memory` is answered if there is

@@ -4,3 +4,4 @@ pub mod ShareFacts
 pub mod ApartShares
 pub mod MergedShares
 pub mod ShareForms
+pub mod RunBounds

@@ -1,7 +1,8 @@
 //! The runs of names that the shares of a table have.
-ghost use Rattle.std.specs.Prelude.{◌≡◌, ◌∷◌, [], ◌++◌, ◌==◌, ◌+◌, ◌≤◌, ◌<◌, length, Ok, IfOk, IfErr, OnOk};
+ghost use Rattle.std.specs.Prelude.{◌≡◌, ◌∷◌, [], ◌++◌, ◌==◌, ◌+◌, ◌≤◌, ◌<◌, true, false, length, Ok, IfOk, IfErr, OnOk};
 ghost use Rattle.std.specs.FinMap as map;
 ghost use Rattle.std.specs.FinMap.Entries.{where_key};
+ghost use Rattle.std.specs.Ordering.{is_lt};
 ghost use Rattle.table_model.specs.Name.{name_cmp};
 ghost use Rattle.table_model.specs.Outcome.{Gives};
 ghost use Rattle.table_model.specs.declared.refusal.Refusal.TheVariants.{Memory};
@@ -32,6 +33,13 @@ impl Model for NameRuns {
     ghost Value = { List BatchName };
 
     ghost view = { λ r. r.firsts.items };
+}
+
+/// Whether a name is less than another.
+fn is_less(name: BatchName, other: BatchName) -> bool
+    ensures { result ≡ is_lt (name_cmp name other) }
+{
+    name < other
 }
 
 impl NameRuns {
@@ -66,12 +74,42 @@ impl NameRuns {
         self.firsts.len()
     }
 
+    /// Whether a name is in a run. Names that the run's own bounds leave out are not looked up.
+    fn is_in_run(&self, index: usize, name: BatchName) -> bool
+        ensures { result ≡ is_in_run self.now index name }
+    {
+        if self.is_before(index, name) || self.is_behind(index, name) {
+            return false;
+        }
+        self.run_of(name) == index
+    }
+
+    /// Whether a name is less than the one that a run begins with.
+    fn is_before(&self, index: usize, name: BatchName) -> bool
+        ensures { result ≡ true → is_in_run self.now index name ≡ false }
+    {
+        if index == 0 || index > self.firsts.len() {
+            return false;
+        }
+        is_less(name, self.firsts[index - 1])
+    }
+
+    /// Whether a name is not less than the one that the next run begins with.
+    fn is_behind(&self, index: usize, name: BatchName) -> bool
+        ensures { result ≡ true → is_in_run self.now index name ≡ false }
+    {
+        if index >= self.firsts.len() {
+            return false;
+        }
+        !is_less(name, self.firsts[index])
+    }
+
     /// Whether a name goes to a share if some names are held.
     fn goes_to(&self, held: &Held, index: usize, name: BatchName) -> bool
         ensures { result ≡ goes_to self.now held.now index name }
     {
         if held.holds(name) {
-            self.run_of(name) == index
+            self.is_in_run(index, name)
         } else {
             index == 0
         }
@@ -143,7 +181,7 @@ impl NameRuns {
     ) -> Result<(), AllocError>
         ensures { OnOk result (copies.new.items ≡ copies.old.items ++ where_key name_cmp (is_in_run self.now index) ((name, segment.now) ∷ [])) }
     {
-        if self.run_of(name) == index {
+        if self.is_in_run(index, name) {
             copies.push((name, segment.copy(alloc)?))?;
         }
         Ok(())
