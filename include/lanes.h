@@ -7,16 +7,19 @@
  * it needs while it runs comes from malloc, and is freed when it returns. What lanes_open keeps comes from malloc too, and is freed when
  * the last handle of it is closed.
  *
- * Bytes that go in are a pointer and a length in bytes. The pointer is never null, also if the length is 0; it may be the same as
- * another one that is only read, and must not overlap what the call writes.
+ * Bytes that go in are a pointer and a length in bytes. With a length of 0 the pointer may be null. It may be the same as another one
+ * that is only read, and must not overlap what the call writes. No call checks a length: so many bytes are there. What a failed call
+ * answered, such as the -1 of read, is no length, and a program that passes it on reads past its memory.
  *
  * Bytes that come out: a call is given `out`, which has room for `room` bytes, and tells in *length how many bytes there are. If they
  * fit, they are at the start of `out`, and the rest of it is unchanged. If they don't fit (*length > room), nothing is
- * written, and the call is to be made again with more room. A room of 0 asks for the length alone; `out` isn't null then either.
+ * written, and the call is to be made again with more room. A room of 0 asks for the length alone; `out` may be null then.
+ *
+ * A pointer to a handle, and to what a call tells, such as `length` and `place`, is never null.
  *
  * What is answered: 0, or the number of a refusal. A refused call tells *length as 0, writes nothing into `out`, and tells in *place
  * the place of the refusal. With 0, *place is {0, 0}, and so it is if a refusal has no place. LANES_MEMORY may come in place of any
- * other refusal, and LANES_READ_FAULT means more than 2^48 bytes of input. Both are refusals of the call, and not of the bytes.
+ * other refusal: it is one of the call, and not of the bytes. LANES_READ_FAULT is one of the program, of files that can't be read.
  *
  * A file is a canonical column file, as docs/FORMATS.md has it; the program `lanes` writes the same bytes. A text is UTF-8, without a
  * byte 0 at its end. Who keeps a file on a disk that other processes change too holds its lock from the reading to the writing, or loses what
@@ -32,10 +35,10 @@
 #include <stdint.h>
 
 /* The version that this header is of. lanes_version answers that of the library that is loaded. */
-#define LANES_VERSION "0.12.0"
+#define LANES_VERSION "0.12.1"
 
-/* The same as a number, for #if: 1,000,000 times the first number, 1,000 times the second, and the third, so that 0.12.0 is 12000. */
-#define LANES_VERSION_NUMBER 12000
+/* The same as a number, for #if: 1,000,000 times the first number, 1,000 times the second, and the third, so that 0.12.1 is 12001. */
+#define LANES_VERSION_NUMBER 12001
 
 #ifdef __cplusplus
 extern "C" {
@@ -274,7 +277,8 @@ typedef struct lanes_table {
 } lanes_table;
 
 /* A closed handle: `lanes_table table = LANES_CLOSED;` or, later, `table = LANES_CLOSED;`, which closes nothing. A handle that is static
- * and has no initializer is closed. */
+ * and has no initializer is closed. In C leave the initializer out there: GCC warns of LANES_CLOSED in it under -Wpedantic. So it is of each
+ * handle below. */
 #ifdef __cplusplus
 #define LANES_CLOSED (lanes_table{})
 #else
@@ -283,7 +287,8 @@ typedef struct lanes_table {
 
 /* Opens a file. The file is checked once, and the handle keeps what it holds. The bytes of the file may be changed or freed then.
  *
- * A handle that was open before is closed, when 0 is answered. When the call is refused the handle is as it was.
+ * A handle that was open before is closed, when 0 is answered; its key stays (lanes_hash_key). When the call is refused the handle is as it
+ * was.
  * Refused: the file's first fault. */
 uint8_t lanes_open(const uint8_t *file, size_t file_length, lanes_table *table, lanes_place *place);
 
@@ -293,7 +298,8 @@ uint8_t lanes_open(const uint8_t *file, size_t file_length, lanes_table *table, 
 uint8_t lanes_share(lanes_table *table, lanes_table *other);
 
 /* Gives the key by which the queries of a handle find groups and distinct values: two words, which should be drawn at random once a
- * process. Handles that are shared from this one afterwards have it too, and so has the handle after a change of its table. No answer
+ * process. Handles that are shared from this one afterwards have it too, and so has the handle after a change of its table, and once
+ * another one is opened in it by lanes_open, lanes_parts_open, lanes_skim_open or lanes_head. A handle that was closed has none. No answer
  * depends on it. Without this call the key is the same in each process, and so it is for lanes_query and lanes_queries: then whoever
  * chooses the rows of a table can choose them so that GROUP BY or DISTINCT takes time in proportion to the square of their number, which
  * is hours for a million rows. So call it if rows come from others.
@@ -498,7 +504,10 @@ uint8_t lanes_spread(lanes_table *table, size_t *ends, size_t ends_room, uint8_t
 /* The calls that begin with lanes_table_ change the table of a handle, and check no file again. With 0 the handle has the changed
  * table; lanes_file gives its file, which is that of the call without a handle. When a call is refused, the handle has the table that
  * it had. Another handle of the same table, which lanes_share gave, has what it had in both cases. So share a handle first to keep
- * the table as it is before a change. While a call runs, memory has the table twice. */
+ * the table as it is before a change.
+ *
+ * A change of the only handle of a table costs what the change brings, however large the table is. When another handle has the same table,
+ * the first change copies the table; the handle is the only one of the copy, and its next changes copy nothing. */
 
 /* Imports rows of comma-separated values, as lanes_import.
  *
@@ -913,7 +922,7 @@ typedef struct lanes_refused {
 size_t lanes_explain(const lanes_refused *refused, const uint8_t *text, size_t text_length, const uint8_t *table, size_t table_length,
                      const uint8_t *null_word, size_t null_word_length, const uint8_t *columns, size_t columns_length, uint8_t *out, size_t room);
 
-/* Gives the library's version, as "0.12.0", without a byte 0 at its end, and answers how many bytes it has. It is written if it
+/* Gives the library's version, as "0.12.1", without a byte 0 at its end, and answers how many bytes it has. It is written if it
  * fits. */
 size_t lanes_version(uint8_t *out, size_t room);
 

@@ -4,7 +4,7 @@ ghost use Rattle.command_line.specs.Outcome.{IsUnread};
 
 use crate::fault::Fault;
 use crate::import_form::import_command;
-use crate::misplaced::{Misplaced, Options};
+use crate::misplaced::{Misplaced, Operands, Options};
 use crate::partial_answer_forms::{combine_command, finish_command, partial_command};
 use crate::report_forms::{
     check_command, dump_command, inspect_command, offer_command, summary_command,
@@ -14,6 +14,7 @@ use crate::requests::{
     Inspect, Merge, Offer, Pack, Partial, Queries, Query, Request, Run, Source, Spread, Summary,
 };
 use crate::spread_form::spread_command;
+use crate::words::ColumnFault;
 use crate::{program_help, words};
 use answer_formats::Format;
 use clap::error::ErrorKind;
@@ -23,7 +24,7 @@ use std::alloc::{AllocError, Global};
 use table_model::{BatchName, RowName};
 
 /// The program's version.
-const VERSION: &str = "0.12.0";
+const VERSION: &str = "0.12.1";
 
 /// What is shown below the help of `lanes run`.
 const SCRIPT_HELP: &str =
@@ -35,7 +36,7 @@ const CREATE_HELP: &str =
 
 /// What is shown below the help of `lanes merge`.
 const MERGE_HELP: &str =
-    "OUT is replaced as a whole, and stays as it was if the merge is refused. If OUT is not a regular file it is written in place.\nA name OUT/ makes a new folder. An IN may be a folder: its parts are merged.";
+    "OUT is replaced as a whole, and stays as it was if the merge is refused. An OUT that is there and is not an IN is replaced only if the\nresult has all its rows and deletions, or with --replace: lanes apply OUT IN.. adds files to it. If OUT is not a regular file it is\nwritten in place. A name OUT/ makes a new folder. An IN may be a folder: its parts are merged.";
 
 /// What is shown below the help of `lanes pack`.
 const PACK_HELP: &str =
@@ -43,6 +44,9 @@ const PACK_HELP: &str =
 
 /// What is said of a word that begins with a hyphen, if a name is wanted.
 const HYPHENED_NAME: &str = ": write a name that begins with - as ./-name, or put -- before it";
+
+/// What is said of a word that begins with a hyphen, if an ordinal is wanted.
+const NO_ORDINAL: &str = ": ordinals begin at 0";
 
 /// What is said of a word that begins with a hyphen, if a query is wanted.
 const NO_QUERY: &str = ": no query begins with -";
@@ -128,7 +132,8 @@ pub fn read_request<'a>(alloc: Global, words: &'a [String]) -> Result<Request<'a
     }
 }
 
-/// Refuses a word behind a command's name that begins with a hyphen, if it is no option, and no condition is wanted there.
+/// Refuses a word behind a command's name that begins with a hyphen, if it is no option, and no condition is wanted there; and operands
+/// that are too few or too many, if it is known what to do.
 fn check_words(alloc: Global, words: &[String]) -> Result<(), Fault>
     ensures { IfErr result IsUnread }
 {
@@ -139,8 +144,15 @@ fn check_words(alloc: Global, words: &[String]) -> Result<(), Fault>
         return Ok(());
     };
     let command = verb.command(alloc)?;
-    match Misplaced::first(&command, rest, verb.place_of_condition()) {
-        Some(misplaced) => Err(verb.fault_of_word(alloc, &command, misplaced)),
+    let operands = Operands::of(&command, rest, verb.place_of_condition());
+    if let Some(misplaced) = operands.misplaced {
+        return Err(verb.fault_of_word(alloc, &command, misplaced));
+    }
+    if operands.is_help_asked {
+        return Ok(());
+    }
+    match verb.cure_of_count(operands.count) {
+        Some((kind, message)) => Err(verb.fault_of_kind(alloc, kind, message)),
         None => Ok(()),
     }
 }
@@ -162,13 +174,14 @@ fn help_asked(alloc: Global, words: &[String]) -> Fault
     }
 }
 
-/// The same, as `clap` answers it.
+/// Has `clap` print the program's help for a command line without a command, which `clap` answers as an error.
 fn shown_help(alloc: Global, words: &[String]) -> Result<(), Fault>
     ensures { IfErr result IsUnread }
 {
     let text = program_help::text(alloc)?;
     let command = commands(alloc)?.override_help(text.as_str());
-    let _ = command.try_get_matches_from(words)?;
+    let (asked, _) = words.split_at(words.len().min(2));
+    let _ = command.try_get_matches_from(asked)?;
     Ok(())
 }
 
@@ -222,7 +235,7 @@ impl Verb {
     }
 
     /// The command of this word.
-    fn named(name: &str) -> Option<Verb> {
+    pub(crate) fn named(name: &str) -> Option<Verb> {
         for verb in VERBS {
             if verb.name() == name {
                 return Some(verb);
@@ -247,6 +260,44 @@ impl Verb {
         }
     }
 
+    /// What to do about this many operands, if the command takes another number of them and it is known.
+    fn cure_of_count(self, count: usize) -> Option<(ErrorKind, &'static str)> {
+        let few = ErrorKind::MissingRequiredArgument;
+        let many = ErrorKind::UnknownArgument;
+        match (self, count) {
+            (Verb::Import, 1) => Some((few, "CSV is missing: give files, or - for standard input")),
+            (Verb::Query, 1) => Some((
+                few,
+                "SQL is missing: give queries, or - for lines of standard input",
+            )),
+            (Verb::Apply, 1) => Some((
+                few,
+                "OFFER is missing: give files, or - for standard input",
+            )),
+            (Verb::Offer, 1) => Some((
+                few,
+                "SUMMARY is missing: give a file, or - for standard input",
+            )),
+            (Verb::Combine, 0) => Some((
+                few,
+                "PARTIAL is missing: give files, or - for standard input",
+            )),
+            (Verb::Finish, 0) => Some((
+                few,
+                "PARTIAL is missing: give a file, or - for standard input",
+            )),
+            (Verb::Delete, 3..) => Some((
+                many,
+                "COND is one word of the command line: put the condition into quotes",
+            )),
+            (Verb::Partial, 3..) => Some((
+                many,
+                "SQL is one word of the command line: put the query into quotes",
+            )),
+            _ => None,
+        }
+    }
+
     /// The fault of a word that begins with a hyphen and is no option of the command.
     fn fault_of_word(self, alloc: Global, command: &Command<'_>, misplaced: Misplaced<'_>) -> Fault
         ensures { IsUnread result }
@@ -256,6 +307,7 @@ impl Verb {
         let options = Options(command);
         let advice = match self.place_of_query() {
             Some(place) if misplaced.place >= place => NO_QUERY,
+            _ if self == Verb::DeleteRows && misplaced.place > 1 => NO_ORDINAL,
             _ => HYPHENED_NAME,
         };
         match format!(in alloc; "lanes {name} has no option {word}, only {options}{advice}") {
@@ -339,6 +391,7 @@ impl Verb {
             Verb::Merge => Ok(Request::Merge(Merge {
                 out: text_of(given, "OUT"),
                 files: texts_of(alloc, given, "IN")?,
+                is_replacing: given.get_flag("replace"),
                 is_quiet: given.get_flag("quiet"),
             })),
             Verb::Spread => Ok(Request::Spread(Spread {
@@ -362,7 +415,7 @@ impl Verb {
     }
 
     /// A fault of the command's words.
-    fn fault_of_kind(self, alloc: Global, kind: ErrorKind, message: &str) -> Fault
+    pub(crate) fn fault_of_kind(self, alloc: Global, kind: ErrorKind, message: &str) -> Fault
         ensures { IsUnread result }
     {
         match self.command(alloc) {
@@ -377,16 +430,34 @@ impl Verb {
     {
         let columns = given.get_strs("COLUMNS").unwrap_or(&[]);
         match words::columns(alloc, columns)? {
-            Some(columns) => Ok(Request::Create(Create {
+            Ok(columns) => Ok(Request::Create(Create {
                 file: text_of(given, "FILE"),
                 table: text_of(given, "TABLE"),
                 columns,
                 is_quiet: given.get_flag("quiet"),
             })),
-            None => Err(self.fault(
-                alloc,
-                "each column is a name and its type, TINYINT, SMALLINT, INTEGER or BIGINT",
-            )),
+            Err(fault) => Err(self.fault_of_column(alloc, fault)),
+        }
+    }
+
+    /// The fault of a column's words.
+    fn fault_of_column(self, alloc: Global, fault: ColumnFault<'_>) -> Fault
+        ensures { IsUnread result }
+    {
+        match format!(in alloc; "{fault}") {
+            Ok(message) => self.fault(alloc, message.as_str()),
+            Err(lacking) => Fault::from(lacking),
+        }
+    }
+
+    /// The fault of a word that is no name of a batch or no ordinal, as these words say.
+    fn fault_of_number(self, alloc: Global, text: &str, words: &str) -> Fault
+        ensures { IsUnread result }
+    {
+        let text = Quoted(text.as_bytes());
+        match format!(in alloc; "{text} {words}") {
+            Ok(message) => self.fault(alloc, message.as_str()),
+            Err(lacking) => Fault::from(lacking),
         }
     }
 
@@ -447,9 +518,10 @@ impl Verb {
     {
         match words::batch_name(text) {
             Some(name) => Ok(name),
-            None => Err(self.fault(
+            None => Err(self.fault_of_number(
                 alloc,
-                "a batch is named O.N, two numbers of 1 to 10 digits, each at most 4294967295",
+                text,
+                "is no name of a batch: a batch is named O.N, two numbers of 1 to 10 digits, each at most 4294967295",
             )),
         }
     }
@@ -460,9 +532,10 @@ impl Verb {
     {
         match words::ordinal(text) {
             Some(ordinal) => Ok(ordinal),
-            None => Err(self.fault(
+            None => Err(self.fault_of_number(
                 alloc,
-                "FIRST and LAST are numbers of 1 to 5 digits, each at most 65535",
+                text,
+                "is no ordinal: FIRST and LAST are numbers of 1 to 5 digits, each at most 65535",
             )),
         }
     }
@@ -753,6 +826,7 @@ fn merge_command<'a>(alloc: Global, command: Command<'a>) -> Result<Command<'a>,
     command
         .about("Merges files and folders into one file")
         .after_help(MERGE_HELP)
+        .arg(flag(alloc, "replace", "Replace OUT, whatever it holds"))?
         .arg(quiet(alloc))?
         .arg(word(alloc, "OUT", "The file that is written"))?
         .arg(several_words(alloc, "IN", "The files that are merged, in this order"))

@@ -5,7 +5,8 @@ ghost use Rattle.command_line.specs.Outcome.{EndsWith, fault_of, refused_memory}
 ghost use Rattle.command_line.specs.declared.fault.Fault.TheVariants.{Refused};
 ghost use Rattle.refusal_sentences.specs.declared.command_refusal.CommandRefusal.TheVariants.{Named};
 
-use crate::commands::commands;
+use crate::commands::Verb;
+use crate::requests::Request;
 use clap::error::ErrorKind;
 use refusal_sentences::CommandRefusal;
 use std::alloc::{AllocError, Global};
@@ -63,33 +64,27 @@ impl From<AllocError> for Fault {
     }
 }
 
-/// The fault of a command line whose output, which is bytes, would go to a terminal.
-pub fn not_for_a_terminal(alloc: Global) -> Fault {
-    match to_a_terminal(alloc) {
-        Ok(fault) => Fault::from(fault),
-        Err(lacking) => Fault::from(lacking),
-    }
+/// The fault of a request whose output, which is bytes, would go to a terminal. None if it writes texts.
+pub fn not_for_a_terminal(alloc: Global, request: &Request<'_>) -> Option<Fault> {
+    let verb = request.verb();
+    let message = match verb {
+        Verb::Summary => {
+            "this command writes binary data, and standard output is a terminal: add > FILE, or | lanes offer FILE -"
+        }
+        Verb::Offer => {
+            "this command writes binary data, and standard output is a terminal: add > FILE, or | lanes apply FILE -"
+        }
+        Verb::Partial | Verb::Combine => {
+            "this command writes binary data, and standard output is a terminal: add > FILE, or | lanes finish -"
+        }
+        _ => return None,
+    };
+    Some(verb.fault_of_kind(alloc, ErrorKind::InvalidValue, message))
 }
 
-/// The same, if there is memory for it.
-fn to_a_terminal(alloc: Global) -> Result<clap::Error, AllocError> {
-    commands(alloc)?.error(
-        ErrorKind::InvalidValue,
-        "this command writes binary data, and standard output is a terminal",
-    )
-}
-
-/// The fault of a command line that names a folder for a command that takes none, and what to do instead.
+/// The fault of a merge whose OUT is a folder, and what to do instead.
 pub fn not_for_a_folder(alloc: Global, advice: &str) -> Fault {
-    match of_a_folder(alloc, advice) {
-        Ok(fault) => Fault::from(fault),
-        Err(lacking) => Fault::from(lacking),
-    }
-}
-
-/// The same, if there is memory for it.
-fn of_a_folder(alloc: Global, advice: &str) -> Result<clap::Error, AllocError> {
-    commands(alloc)?.error(ErrorKind::InvalidValue, advice)
+    Verb::Merge.fault_of_kind(alloc, ErrorKind::InvalidValue, advice)
 }
 
 impl Fault {

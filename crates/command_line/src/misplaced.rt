@@ -1,7 +1,18 @@
-//! Words of a command line that begin with a hyphen and are no option.
+//! The operands of a command line: words that are neither options nor values of options.
 
 use clap::{ArgAction, Command};
 use std::fmt;
+
+/// The operands behind the name of a command.
+#[derive(Clone, Copy, Debug)]
+pub struct Operands<'a> {
+    /// The first one that begins with a hyphen at the place of a name or a query.
+    pub misplaced: Option<Misplaced<'a>>,
+    /// How many there are.
+    pub count: usize,
+    /// Whether an option before the end of options asks for help.
+    pub is_help_asked: bool,
+}
 
 /// A word that begins with a hyphen, is no option, and is at the place of a name or a query.
 #[derive(Clone, Copy, Debug)]
@@ -17,6 +28,8 @@ pub struct Misplaced<'a> {
 enum Word {
     /// An option that is whole: a flag, or one with its value.
     WholeOption,
+    /// The option that asks for help.
+    Help,
     /// An option whose value is the next word.
     OptionBeforeValue,
     /// The word after which each word is taken as it is.
@@ -27,33 +40,45 @@ enum Word {
     Plain,
 }
 
-impl<'a> Misplaced<'a> {
-    /// The first such word behind the name of a command. At the place of a condition a word may begin with a hyphen.
-    pub fn first(
+impl<'a> Operands<'a> {
+    /// Those of the words behind the name of a command. At the place of a condition a word may begin with a hyphen.
+    pub fn of(
         command: &Command<'_>,
         words: &'a [String],
         condition: Option<usize>,
-    ) -> Option<Misplaced<'a>> {
-        let mut place = 0usize;
+    ) -> Operands<'a> {
+        let mut misplaced = None;
+        let mut is_help_asked = false;
+        let mut count = 0usize;
         let mut is_value = false;
+        let mut is_ended = false;
         for given in words {
             let word = given.as_str();
-            let kind = if is_value {
+            let kind = if is_ended {
+                Word::Plain
+            } else if is_value {
                 Word::WholeOption
             } else {
                 kind_of_word(command, word)
             };
             is_value = kind == Word::OptionBeforeValue;
             match kind {
-                Word::EndOfOptions => return None,
-                Word::Hyphened if condition != Some(place) => {
-                    return Some(Misplaced { word, place });
+                Word::EndOfOptions => is_ended = true,
+                Word::Hyphened | Word::Plain => {
+                    if kind == Word::Hyphened && condition != Some(count) {
+                        misplaced = misplaced.or(Some(Misplaced { word, place: count }));
+                    }
+                    count = count.saturating_add(1);
                 }
-                Word::Hyphened | Word::Plain => place = place.saturating_add(1),
+                Word::Help => is_help_asked = true,
                 Word::WholeOption | Word::OptionBeforeValue => {}
             }
         }
-        None
+        Operands {
+            misplaced,
+            count,
+            is_help_asked,
+        }
     }
 }
 
@@ -63,7 +88,7 @@ fn kind_of_word(command: &Command<'_>, word: &str) -> Word {
         return Word::EndOfOptions;
     }
     if word == "-h" || word == "--help" {
-        return Word::WholeOption;
+        return Word::Help;
     }
     match word
         .strip_prefix("--")

@@ -3,7 +3,7 @@ ghost use Rattle.std.specs.Prelude.{◌≡◌, IfErr};
 ghost use Rattle.std.specs.IoError.{error_kind};
 ghost use Rattle.command_line.specs.Outcome.{IsUnread, refused_memory};
 
-use crate::commands::commands;
+use crate::commands::{Verb, commands};
 use crate::fault::Fault;
 use clap::error;
 use refusal_sentences::Quoted;
@@ -49,6 +49,10 @@ fn unread<R: Env + AllocGlobal>(rt: &R, failure: &io::Error) -> Fault
 /// The fault of the first argument that isn't UTF-8.
 fn not_utf8<R: Env + AllocGlobal>(rt: &R) -> Result<clap::Error, AllocError> {
     let mut buffer = vec![in rt.alloc(); 0u8; LONGEST]?;
+    let mut command = match verb_of(rt, buffer.as_mut_slice()) {
+        Some(verb) => verb.command(rt.alloc())?,
+        None => commands(rt.alloc())?,
+    };
     let message = match first_unread(rt, buffer.as_mut_slice()) {
         Some((index, length)) => {
             let (bytes, _) = buffer.as_slice().split_at(length.min(LONGEST));
@@ -57,7 +61,14 @@ fn not_utf8<R: Env + AllocGlobal>(rt: &R) -> Result<clap::Error, AllocError> {
         }
         None => String::from_str(rt.alloc(), "an argument is not UTF-8")?,
     };
-    commands(rt.alloc())?.error(error::ErrorKind::InvalidValue, message.as_str())
+    command.error(error::ErrorKind::InvalidValue, message.as_str())
+}
+
+/// The command that the first argument names, if it names one.
+fn verb_of<R: Env>(rt: &R, buffer: &mut [u8]) -> Option<Verb> {
+    let length = rt.arg(1, buffer).ok()?;
+    let (bytes, _) = buffer.split_at(length.min(buffer.len()));
+    Verb::named(str::from_utf8(bytes).ok()?)
 }
 
 /// Reads arguments up to the first that isn't UTF-8, and answers its number and how many bytes it has.

@@ -9,7 +9,7 @@ const HEAD: &str =
 
 /// What comes after the commands.
 const TAIL: &str =
-    "\nOptions:\n  -h, --help     Print help\n  -V, --version  Print version\n\nlanes help COMMAND says how a command is used. README.md has a first example, docs/COMMANDS.md all about each command,\nand docs/SQL.md the language of queries.";
+    "\nOptions:\n  -h, --help     Print help\n  -V, --version  Print version\n\nlanes help COMMAND says how a command is used. The pages are in share/doc/lanes next to bin: README.md has a first example,\ndocs/COMMANDS.md all about each command, and docs/SQL.md the language of queries.";
 
 /// The groups of commands.
 const GROUPS: [(&str, &[Verb]); 4] = [
@@ -46,6 +46,7 @@ const LONGEST: usize = 11;
 pub fn is_asked(words: &[String]) -> bool {
     match words {
         [_, word] => matches!(word.as_str(), "--help" | "-h" | "help"),
+        [_, word, next] if word.as_str() == "help" => matches!(next.as_str(), "--help" | "-h"),
         [_, word, ..] => matches!(word.as_str(), "--help" | "-h"),
         _ => false,
     }

@@ -23,7 +23,7 @@ impl<'a> Source<'a> {
         }
     }
 
-    /// What it is called in a sentence.
+    /// The file's name, or "standard input", as sentences say it.
     pub fn name(self) -> &'a str {
         match self {
             Source::Input => "standard input",
@@ -245,13 +245,15 @@ pub struct Pack<'a> {
     pub is_quiet: bool,
 }
 
-/// `lanes merge [--quiet] OUT IN..`: the canonical file of what all of some files hold.
+/// `lanes merge [--replace] [--quiet] OUT IN..`: the canonical file of what all of some files hold.
 #[derive(Debug, Drop)]
 pub struct Merge<'a> {
     /// The name of the file that is written, or of the folder that is made if it ends in `/`.
     pub out: &'a str,
     /// The names of the files that are merged, at least one.
     pub files: Vec<&'a str>,
+    /// Whether a file that is there is replaced, whatever it holds.
+    pub is_replacing: bool,
     /// Whether nothing is printed if all is well.
     pub is_quiet: bool,
 }
@@ -345,7 +347,7 @@ impl<'a> Request<'a> {
     }
 
     /// The command.
-    fn verb(&self) -> Verb {
+    pub(crate) fn verb(&self) -> Verb {
         match self {
             Request::Run(_) => Verb::Run,
             Request::Create(_) => Verb::Create,

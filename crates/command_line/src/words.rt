@@ -2,7 +2,9 @@
 
 use crate::requests::Source;
 use answer_formats::{Format, ReportForm};
+use refusal_sentences::Quoted;
 use std::alloc::{AllocError, Global};
+use std::fmt;
 use table_model::{BatchName, ColType, NUMBER_DIGITS, Number, ORDINAL_DIGITS, Origin, magnitude};
 
 /// The number that 1 digit and at most `most` write.
@@ -54,23 +56,103 @@ pub fn report_form(name: &str) -> Option<ReportForm> {
     }
 }
 
-/// The columns of these names and types, each name before its type, which is written in any case. None if a name has no type, or a
-/// type isn't one.
+/// What is wrong with the words of a table's columns.
+#[derive(Clone, Copy, Debug)]
+pub enum ColumnFault<'a> {
+    /// No type comes after this name.
+    NoType(&'a str),
+    /// This is the type of no column.
+    OtherType(&'a str),
+}
+
+/// How types of other systems begin, and what to do instead.
+const OTHER_TYPES: [(&str, &str); 18] = [
+    ("INT2", "write SMALLINT"),
+    ("INT8", "write BIGINT"),
+    ("INT", "write INTEGER"),
+    ("LONG", "write BIGINT"),
+    ("CHAR", NO_TEXT),
+    ("TEXT", NO_TEXT),
+    ("STRING", NO_TEXT),
+    ("VARCHAR", NO_TEXT),
+    ("NUMBER", NO_FRACTION),
+    ("FLOAT", NO_FRACTION),
+    ("DOUBLE", NO_FRACTION),
+    ("REAL", NO_FRACTION),
+    ("DECIMAL", NO_FRACTION),
+    ("NUMERIC", NO_FRACTION),
+    ("TIMESTAMP", "store seconds since 1970 in a BIGINT"),
+    (
+        "DATE",
+        "store a day as a number, as 20261130, in an INTEGER",
+    ),
+    ("TIME", "store seconds in an INTEGER"),
+    ("BOOL", "store 1 and 0 in a TINYINT"),
+];
+
+/// What to do instead of a text.
+const NO_TEXT: &str = "store a number for each text";
+
+/// What to do instead of a fraction.
+const NO_FRACTION: &str = "store a whole number of a smaller unit, as cents for an amount";
+
+/// What to do instead of a type of another system, if it is known.
+fn cure_of_type(written: &str) -> Option<&'static str> {
+    if written.contains(',') {
+        return Some("no comma comes between two columns");
+    }
+    for (known, cure) in OTHER_TYPES {
+        let front = written.get(..known.len());
+        if front.is_some_and(|front| front.eq_ignore_ascii_case(known)) {
+            return Some(cure);
+        }
+    }
+    None
+}
+
+/// The fault in words.
+impl<'a> fmt::Display for ColumnFault<'a> {
+    fn fmt<W: fmt::Write>(&self, f: &mut fmt::Formatter<W>) -> fmt::Result {
+        match *self {
+            ColumnFault::NoType(name) => {
+                fmt::Display::fmt(&Quoted(name.as_bytes()), f)?;
+                f.write_str(
+                    " has no type: each column is a name and its type, TINYINT, SMALLINT, INTEGER or BIGINT",
+                )
+            }
+            ColumnFault::OtherType(written) => {
+                fmt::Display::fmt(&Quoted(written.as_bytes()), f)?;
+                f.write_str(
+                    " is no type: each column is a name and its type, TINYINT, SMALLINT, INTEGER or BIGINT",
+                )?;
+                match cure_of_type(written) {
+                    Some(cure) => write!(f, "; {cure}"),
+                    None => Ok(()),
+                }
+            }
+        }
+    }
+}
+
+/// The columns of these names and types, each name before its type, which is written in any case; or the first fault
+/// among them.
 pub fn columns<'a>(
     alloc: Global,
     words: &[&'a str],
-) -> Result<Option<Vec<(&'a str, ColType)>>, AllocError> {
+) -> Result<Result<Vec<(&'a str, ColType)>, ColumnFault<'a>>, AllocError> {
     let mut columns = Vec::new(alloc);
     for pair in words.chunks(2) {
-        let [name, written] = *pair else {
-            return Ok(None);
+        let (name, written) = match *pair {
+            [name, written] => (name, written),
+            [name] => return Ok(Err(ColumnFault::NoType(name))),
+            _ => continue,
         };
         let Some(column_type) = column_type(alloc, written)? else {
-            return Ok(None);
+            return Ok(Err(ColumnFault::OtherType(written)));
         };
         columns.push((name, column_type))?;
     }
-    Ok(Some(columns))
+    Ok(Ok(columns))
 }
 
 /// The type of this name in any case.

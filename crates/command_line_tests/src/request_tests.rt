@@ -54,7 +54,7 @@ const REQUESTS: [(&[&str], &str); 22] = [
     ),
     (
         &["merge", "out", "a", "b", "c"],
-        "Merge(Merge { out: \"out\", files: [\"a\", \"b\", \"c\"], is_quiet: false })",
+        "Merge(Merge { out: \"out\", files: [\"a\", \"b\", \"c\"], is_replacing: false, is_quiet: false })",
     ),
     (
         &["spread", "t", "a", "b/"],
@@ -66,7 +66,7 @@ const REQUESTS: [(&[&str], &str); 22] = [
     ),
     (
         &["merge", "--", "-", "--x", "-b", "--help"],
-        "Merge(Merge { out: \"-\", files: [\"--x\", \"-b\", \"--help\"], is_quiet: false })",
+        "Merge(Merge { out: \"-\", files: [\"--x\", \"-b\", \"--help\"], is_replacing: false, is_quiet: false })",
     ),
     (
         &["query", "t", "A", "B", "C"],
@@ -152,8 +152,8 @@ const MORE_REQUESTS: [(&[&str], &str); 31] = [
         "Import(Import { file: \"f\", csvs: [File(\"c\")], first: None, form: CsvForm { has_header: true, separator: 44, null_word: Some(\"--\"), columns: None, is_whole: false }, is_quiet: false })",
     ),
     (
-        &["merge", "--quiet", "o", "a"],
-        "Merge(Merge { out: \"o\", files: [\"a\"], is_quiet: true })",
+        &["merge", "--quiet", "o", "--replace", "a"],
+        "Merge(Merge { out: \"o\", files: [\"a\"], is_replacing: true, is_quiet: true })",
     ),
     (
         &["apply", "--quiet", "o", "a"],

@@ -32,7 +32,7 @@ pub fn inspect<R: Host>(
     }
 }
 
-/// The same of a file, by the kind of it that its first bytes tell.
+/// Writes what a file holds, a list of its batches, or what a partial answer or a summary covers, by the file's first bytes.
 fn inspect_input<R: Host>(
     rt: &R,
     progress: &Progress<'_, R>,

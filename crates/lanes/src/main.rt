@@ -13,7 +13,7 @@ mod scripts;
 mod spreading;
 mod typed;
 
-use command_line::{Queries, Query, Request};
+use command_line::{Queries, Query, Request, not_for_a_terminal};
 use program_failures::Failure;
 use program_inputs::{Host, Progress};
 use std::io::{IsTerminal, Write};
@@ -77,12 +77,16 @@ fn answer<R: Host, N: Write>(
     progress: &Progress<'_, R>,
     notes: &mut N,
 ) -> Result<ExitCode, Failure> {
-    let is_shown = terminals.output;
+    if terminals.output {
+        if let Some(fault) = not_for_a_terminal(rt.alloc(), &request) {
+            return Err(Failure::from(fault));
+        }
+    }
     match request {
         Request::Run(asked) => scripts::run(rt, progress, &asked, terminals.input, notes)?,
         Request::Query(asked) => return query(rt, progress, &asked, terminals, notes),
-        Request::Partial(asked) => query_partial_answers::partial(rt, progress, &asked, is_shown)?,
-        Request::Combine(asked) => query_partial_answers::combine(rt, progress, &asked, is_shown)?,
+        Request::Partial(asked) => query_partial_answers::partial(rt, progress, &asked)?,
+        Request::Combine(asked) => query_partial_answers::combine(rt, progress, &asked)?,
         Request::Finish(asked) => query_partial_answers::finish(rt, progress, &asked)?,
         Request::Create(asked) => commands::create(rt, progress, &asked)?,
         Request::Import(asked) => commands::import(rt, progress, &asked)?,
@@ -92,8 +96,8 @@ fn answer<R: Host, N: Write>(
         Request::Forget(asked) => commands::forget(rt, progress, &asked)?,
         Request::Dump(asked) => reports::dump(rt, progress, &asked)?,
         Request::Inspect(asked) => inspecting::inspect(rt, progress, &asked)?,
-        Request::Summary(asked) => reports::summary(rt, progress, asked.file, is_shown)?,
-        Request::Offer(asked) => reports::offer(rt, progress, &asked, is_shown)?,
+        Request::Summary(asked) => reports::summary(rt, progress, asked.file)?,
+        Request::Offer(asked) => reports::offer(rt, progress, &asked)?,
         Request::Check(asked) => reports::check(rt, progress, &asked)?,
         Request::Merge(asked) => merging::merge(rt, progress, &asked)?,
         Request::Spread(asked) => spreading::spread(rt, progress, &asked)?,

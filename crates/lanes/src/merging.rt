@@ -15,9 +15,21 @@ use program_inputs::{Home, Host, LazyFile, Progress, Told, is_folder};
 use refusal_sentences::CommandRefusal;
 use std::alloc::{AllocError, Global};
 use std::fs::{self, Files};
-use std::io::Read;
+use std::io::{ErrorKind, Read};
 use std::os::unix::fs::MetadataExt;
 use table_model::{Counted, READ_CHUNK, Refusal};
+
+/// What is said of an OUT that is no table's file.
+const NO_TABLE: &str =
+    "this is there and holds no table: choose another OUT, or write over this one by --replace (lanes apply OUT IN.. adds files to a table)";
+
+/// What is said of an OUT that has another table.
+const OTHER_TABLE: &str =
+    "this is there and holds another table: choose another OUT, or write over this one by --replace (lanes apply OUT IN.. adds files of one table)";
+
+/// What is said of an OUT that has more than the result, or other rows.
+const MORE_IN_OUT: &str =
+    "this is there and holds rows or deletions that the result does not have: lanes apply OUT IN.. adds the files to it, and --replace writes over it";
 
 /// What to do instead of a merge into a folder that is there.
 const NO_FOLDER: &str =
@@ -25,8 +37,9 @@ const NO_FOLDER: &str =
 
 /// Writes the canonical file of what all of some files hold, of which there is at least one, and then `ok`, unless it is to be quiet
 /// or what is written is no regular file, since that may be standard output itself. The files are judged in order. The one that is
-/// written is replaced whole, and if it is one of them its lock is taken at the beginning. For a folder among them its parts are
-/// read. A name that ends in `/` is that of a folder that is made, with what is written as its one part.
+/// written is replaced whole, and if it is one of them its lock is taken at the beginning. If it is there and is not one of them, it is
+/// replaced only if what is written has all that it holds, or if that is asked for. For a folder among them its parts are read. A name
+/// that ends in `/` is that of a folder that is made, with what is written as its one part.
 pub fn merge<R: Host>(
     rt: &R,
     progress: &Progress<'_, R>,
@@ -40,7 +53,7 @@ pub fn merge<R: Host>(
             return Err(Failure::from(not_for_a_folder(rt.alloc(), NO_FOLDER)));
         }
         Home::File(out) if is_special(rt, out) => return fill(rt, progress, out, names),
-        Home::File(out) => replace(rt, progress, out, names)?,
+        Home::File(out) => replace(rt, progress, out, names, asked.is_replacing)?,
     };
     say(rt, home, &Done::new(Reply::Created, left), asked.is_quiet)
 }
@@ -74,22 +87,68 @@ fn replace<R: Host>(
     progress: &Progress<'_, R>,
     out: &str,
     names: &[&str],
+    is_replacing: bool,
 ) -> Result<Left, Failure> {
     let own = own_among(rt, out, names)?;
+    let is_own = own.contains(&true);
     let mut output = Output::new(rt, out)?;
-    if own.contains(&true) {
+    if is_own {
         output.hold(rt);
     }
-    match merged_with_own(rt, progress, names, own.as_slice(), output.name()) {
-        Ok(bytes)
-            if own.contains(&true)
-                && output.is_held()
-                && has_bytes(rt, output.name(), bytes.as_slice()) => { Ok(output.keep()) }
-        Ok(bytes) => output.replace(rt, out, bytes.as_slice()),
+    let bytes = match merged_with_own(rt, progress, names, own.as_slice(), output.name()) {
+        Ok(bytes) => bytes,
         Err(failure) => {
             output.leave();
-            Err(failure)
+            return Err(failure);
         }
+    };
+    if is_own {
+        return if output.is_held() && has_bytes(rt, output.name(), bytes.as_slice()) {
+            Ok(output.keep())
+        } else {
+            output.replace(rt, out, bytes.as_slice())
+        };
+    }
+    output.hold(rt);
+    if let Some(failure) = kept_by(rt, out, output.name(), bytes.as_slice(), is_replacing) {
+        output.leave();
+        return Err(failure);
+    }
+    output.replace(rt, out, bytes.as_slice())
+}
+
+/// Why a file that is there is not replaced by these bytes, unless that is asked for: they lack some of what it holds, or it can't be
+/// read. `out` is what it is called in a sentence. None if it is replaced.
+fn kept_by<R: Host>(
+    rt: &R,
+    out: &str,
+    name: &str,
+    bytes: &[u8],
+    is_replacing: bool,
+) -> Option<Failure> {
+    if is_replacing || is_empty(rt, name) || has_bytes(rt, name, bytes) {
+        return None;
+    }
+    let mut result = Counted::new(Either::Left(bytes));
+    let mut file = [Counted::new(Either::Right(LazyFile::new(rt, name)))];
+    let words = match merged(rt.alloc(), &mut result, file.as_mut_slice()) {
+        Ok(both) if both.as_slice() == bytes => return None,
+        Ok(_) | Err(Refusal::Conflict(_) | Refusal::Full) => MORE_IN_OUT,
+        Err(Refusal::SchemaDiffers) => OTHER_TABLE,
+        Err(Refusal::ReadFault) => {
+            return Some(Failure::of_file(rt, CommandRefusal::from(Refusal::ReadFault), out));
+        }
+        Err(Refusal::Memory) => return Some(Failure::from(Refusal::Memory)),
+        Err(_) => NO_TABLE,
+    };
+    Some(Failure::advised(rt.alloc(), CommandRefusal::Exists, out, words))
+}
+
+/// Whether nothing has a name, or a file without a byte has it.
+fn is_empty<R: Files>(rt: &R, name: &str) -> bool {
+    match fs::metadata(rt, name) {
+        Ok(found) => found.is_file() && found.len() == 0,
+        Err(error) => error.kind() == ErrorKind::NotFound,
     }
 }
 

@@ -23,7 +23,7 @@ pub fn opened<R: Host>(
     }
 }
 
-/// The same of standard input, or of what has a name.
+/// What standard input, a file or a folder holds, once all of it was read and judged.
 pub fn opened_from<R: Host>(
     rt: &R,
     progress: &Progress<'_, R>,

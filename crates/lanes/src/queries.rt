@@ -5,13 +5,16 @@ use crate::typed::{Typed, WELCOME};
 use command_line::Format;
 use program_failures::Failure;
 use program_inputs::{Cause, Host, Progress, Watched};
-use refusal_sentences::{CommandRefusal, Knowledge, NOT_UTF8, Text};
+use refusal_sentences::{CommandRefusal, Knowledge, NOT_UTF8, Printable, Text};
 use replica_reports::{Listener, answer_all, answer_lines};
-use std::alloc::Global;
+use std::alloc::{AllocError, Global};
 use std::fmt;
 use std::io::{self, Write};
 use std::str::{self, Utf8Error};
 use table_model::{Counted, Refusal, Schema};
+
+/// What is said of the first word of a query that was given as several.
+const NO_QUOTES: &str = "this is the word SELECT alone: put the query into quotes";
 
 /// What a person at a terminal is asked with.
 const PROMPT: &str = "lanes> ";
@@ -38,7 +41,7 @@ pub fn answer_texts<R: Host>(
     match writer.into_inner().ended(Err(stopped.refusal)) {
         Ok(()) => Ok(()),
         Err(cause) if cause.refusal == Refusal::Memory => Err(Failure::from(cause.refusal)),
-        Err(cause) => Err(refused_query(rt, query, place, held.schema(), cause)),
+        Err(cause) => Err(refused_query(rt, file, query, place, held.schema(), cause)),
     }
 }
 
@@ -92,6 +95,7 @@ pub fn answer_typed<R: Host, N: Write>(
     let mut writer = Counted::new(Watched::new(io::writer(rt)));
     let mut person = Person {
         rt,
+        file,
         schema: held.schema(),
         is_typed,
         is_shown,
@@ -118,6 +122,7 @@ pub fn answer_typed<R: Host, N: Write>(
 #[derive(Drop)]
 struct Person<'a, R, N> {
     rt: &'a R,
+    file: &'a str,
     schema: &'a Schema,
     is_typed: bool,
     is_shown: bool,
@@ -132,7 +137,7 @@ impl<'a, R: Print + Eprint + AllocGlobal, N: Write> Listener for Person<'a, R, N
     }
 
     fn refused(&mut self, number: u64, line: &[u8], refusal: Refusal) {
-        let failure = refused_line(self.rt, number, line, self.schema, refusal);
+        let failure = refused_line(self.rt, self.file, number, line, self.schema, refusal);
         let _ = failure.report(self.rt, self.is_shown, self.notes);
     }
 }
@@ -140,19 +145,34 @@ impl<'a, R: Print + Eprint + AllocGlobal, N: Write> Listener for Person<'a, R, N
 /// The refusal of a line.
 fn refused_line<R: AllocGlobal>(
     rt: &R,
+    file: &str,
     number: u64,
     line: &[u8],
     schema: &Schema,
     refusal: Refusal,
 ) -> Failure {
+    let place = Place::Line(number);
     if refusal == Refusal::LineTooLong {
-        let knowledge = Knowledge::Line(number);
-        return Failure::said_of(rt.alloc(), CommandRefusal::from(refusal), "", knowledge);
+        return match subject_of(rt.alloc(), file, place) {
+            Ok(subject) => Failure::said_of(
+                rt.alloc(),
+                CommandRefusal::from(refusal),
+                subject.as_str(),
+                Knowledge::Nothing,
+            ),
+            Err(_) => Failure::from(refusal),
+        };
     }
     match str::from_utf8(line) {
-        Ok(query) => refused_query(rt, query, Place::Line(number), schema, Cause::from(refusal)),
-        Err(error) => not_utf8(rt.alloc(), number, &error),
+        Ok(query) => refused_query(rt, file, query, place, schema, Cause::from(refusal)),
+        Err(error) => not_utf8(rt.alloc(), file, place, &error),
     }
+}
+
+/// A file and a place in queries over it, as the beginning of a sentence.
+fn subject_of(alloc: Global, file: &str, place: Place) -> Result<String, AllocError> {
+    let file = Printable(file);
+    format!(in alloc; "{file}: {place}")
 }
 
 /// What ends the answering of lines: a failed write, a failed read of standard input, or out of memory.
@@ -164,22 +184,23 @@ fn ended<R: AllocGlobal>(rt: &R, cause: Cause) -> Failure {
 }
 
 /// The refusal of a line that isn't UTF-8.
-fn not_utf8(alloc: Global, number: u64, error: &Utf8Error) -> Failure {
+fn not_utf8(alloc: Global, file: &str, place: Place, error: &Utf8Error) -> Failure {
     let refusal = Refusal::Syntax(error.valid_up_to() as u64);
-    let Ok(place) = Place::Line(number).to_string(alloc) else {
-        return Failure::from(refusal);
-    };
-    Failure::advised(
-        alloc,
-        CommandRefusal::from(refusal),
-        place.as_str(),
-        NOT_UTF8,
-    )
+    match subject_of(alloc, file, place) {
+        Ok(subject) => Failure::advised(
+            alloc,
+            CommandRefusal::from(refusal),
+            subject.as_str(),
+            NOT_UTF8,
+        ),
+        Err(_) => Failure::from(refusal),
+    }
 }
 
 /// A refusal of a query, which is pointed at.
 fn refused_query<R: AllocGlobal>(
     rt: &R,
+    file: &str,
     query: &str,
     place: Place,
     schema: &Schema,
@@ -194,9 +215,24 @@ fn refused_query<R: AllocGlobal>(
         is_condition: false,
         schema: Some(schema),
     };
-    let subject = match place.to_string(rt.alloc()) {
-        Ok(subject) => subject,
-        Err(_) => return Failure::from(refusal),
-    };
-    Failure::of_text(rt.alloc(), refusal, subject.as_str(), text)
+    if is_alone_of_several(query, place) {
+        return match subject_of(rt.alloc(), file, place) {
+            Ok(subject) => Failure::advised(
+                rt.alloc(),
+                CommandRefusal::from(refusal),
+                subject.as_str(),
+                NO_QUOTES,
+            ),
+            Err(_) => Failure::from(refusal),
+        };
+    }
+    match place.to_string(rt.alloc()) {
+        Ok(subject) => Failure::of_text(rt.alloc(), refusal, file, subject.as_str(), text),
+        Err(_) => Failure::from(refusal),
+    }
+}
+
+/// Whether a query is the first word of one, and more words come in the command line.
+fn is_alone_of_several(query: &str, place: Place) -> bool {
+    matches!(place, Place::Query(_)) && query.eq_ignore_ascii_case("SELECT")
 }

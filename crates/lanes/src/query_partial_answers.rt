@@ -3,7 +3,7 @@
 
 use crate::opening::opened_from;
 use column_file::read_summary;
-use command_line::{Combine, Finish, Format, Partial, Source, not_for_a_terminal};
+use command_line::{Combine, Finish, Format, Partial, Source};
 use partial_answers::{PartialAnswer, PartialAnswerFault};
 use partial_commands::{
     ExpectationError, PartialAnswerError, combine_with, write_expected_answer,
@@ -27,17 +27,16 @@ pub fn partial<'r, R: Host>(
     rt: &'r R,
     progress: &'r Progress<'r, R>,
     asked: &Partial<'_>,
-    is_terminal: bool,
 ) -> Result<(), Failure> {
-    if is_terminal {
-        return Err(Failure::from(not_for_a_terminal(rt.alloc())));
-    }
     let sql = asked.sql;
     let held = opened_from(rt, progress, asked.file)?;
     let mut writer = buffered(rt)?;
     let key = held.hash_key();
     match write_partial_answer_of_store(rt.alloc(), held.store(), key, sql, &mut writer) {
-        Err(refusal) if is_of_a_text(refusal) => { Err(not_asked(rt, refusal, sql, held.schema())) }
+        Err(refusal) if is_of_a_text(refusal) => {
+            let name = asked.file.name();
+            Err(not_asked(rt, refusal, name, sql, held.schema()))
+        }
         outcome => told(rt, flushed(writer, outcome)),
     }
 }
@@ -46,6 +45,7 @@ pub fn partial<'r, R: Host>(
 fn not_asked<'a, R: AllocGlobal>(
     rt: &R,
     refusal: Refusal,
+    name: &str,
     sql: &'a str,
     schema: &'a Schema,
 ) -> Failure {
@@ -54,7 +54,7 @@ fn not_asked<'a, R: AllocGlobal>(
         is_condition: false,
         schema: Some(schema),
     };
-    Failure::of_text(rt.alloc(), refusal, "", text)
+    Failure::of_text(rt.alloc(), refusal, name, "", text)
 }
 
 /// Writes the partial answer of all files that some partial answers are of, of which there is at least one.
@@ -62,11 +62,7 @@ pub fn combine<'r, R: Host>(
     rt: &'r R,
     progress: &'r Progress<'r, R>,
     asked: &Combine<'_>,
-    is_terminal: bool,
 ) -> Result<(), Failure> {
-    if is_terminal {
-        return Err(Failure::from(not_for_a_terminal(rt.alloc())));
-    }
     match combined(rt, progress, asked.partials.as_slice())? {
         Some(partial) => write_out(rt, &partial),
         None => Err(Failure::from(Refusal::ReadFault)),

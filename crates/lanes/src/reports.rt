@@ -2,7 +2,7 @@
 
 use crate::folder_reports;
 use crate::opening::{opened, opened_source};
-use command_line::{Check, Dump, Offer, Source, not_for_a_terminal};
+use command_line::{Check, Dump, Offer, Source};
 use live_columns::{Unchosen, choose};
 use program_failures::{Failure, buffered, flushed, told, unread_by};
 use program_inputs::{Home, Host, Progress, Watched, source_of};
@@ -11,7 +11,7 @@ use replica_reports::{OpenFile, check_with_digest, dump_where};
 use std::io;
 use table_model::{Counted, Refusal};
 
-/// Says whether a file is a canonical one, and how much is in it.
+/// Says whether a file, or each part of a folder, is a canonical one, and how much is in it.
 pub fn check<R: Host>(
     rt: &R,
     progress: &Progress<'_, R>,
@@ -23,7 +23,7 @@ pub fn check<R: Host>(
     }
 }
 
-/// The same of a file.
+/// Says whether a file is a canonical one, and how much is in it.
 fn check_file<R: Host>(
     rt: &R,
     progress: &Progress<'_, R>,
@@ -54,10 +54,10 @@ pub fn dump<R: Host>(rt: &R, progress: &Progress<'_, R>, asked: &Dump<'_>) -> Re
     ) {
         Ok(choice) => choice,
         Err(Unchosen::NoSuchName(at)) => {
-            return Err(Failure::of_name(rt.alloc(), "--columns", columns, at, held.schema()));
+            return Err(Failure::of_name(rt.alloc(), asked.file, columns, at, held.schema()));
         }
         Err(Unchosen::Refused(refusal)) => {
-            return Err(unchosen(rt, refusal, condition, &held));
+            return Err(unchosen(rt, refusal, asked.file, condition, &held));
         }
     };
     let mut writer = buffered(rt)?;
@@ -66,13 +66,20 @@ pub fn dump<R: Host>(rt: &R, progress: &Progress<'_, R>, asked: &Dump<'_>) -> Re
 }
 
 /// The refusal of the condition that is given with `--where`.
-fn unchosen<R: AllocGlobal>(rt: &R, refusal: Refusal, condition: &str, held: &OpenFile) -> Failure {
+fn unchosen<R: AllocGlobal>(
+    rt: &R,
+    refusal: Refusal,
+    file: &str,
+    condition: &str,
+    held: &OpenFile,
+) -> Failure {
     if !is_of_a_text(refusal) {
         return Failure::from(refusal);
     }
     Failure::of_condition(
         rt.alloc(),
         refusal,
+        file,
         "--where",
         condition,
         Some(held.schema()),
@@ -80,15 +87,7 @@ fn unchosen<R: AllocGlobal>(rt: &R, refusal: Refusal, condition: &str, held: &Op
 }
 
 /// Writes the names of a file's batches, as a message.
-pub fn summary<R: Host>(
-    rt: &R,
-    progress: &Progress<'_, R>,
-    file: &str,
-    is_terminal: bool,
-) -> Result<(), Failure> {
-    if is_terminal {
-        return Err(Failure::from(not_for_a_terminal(rt.alloc())));
-    }
+pub fn summary<R: Host>(rt: &R, progress: &Progress<'_, R>, file: &str) -> Result<(), Failure> {
     let held = opened(rt, progress, file)?;
     let mut writer = buffered(rt)?;
     let outcome = replica_reports::summary(rt.alloc(), &held, &mut writer);
@@ -100,11 +99,7 @@ pub fn offer<R: Host>(
     rt: &R,
     progress: &Progress<'_, R>,
     asked: &Offer<'_>,
-    is_terminal: bool,
 ) -> Result<(), Failure> {
-    if is_terminal {
-        return Err(Failure::from(not_for_a_terminal(rt.alloc())));
-    }
     let (file, source) = (asked.file, asked.summary);
     let held = opened(rt, progress, file)?;
     let mut reader = source_of(rt, progress, source);

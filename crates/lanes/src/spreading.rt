@@ -47,7 +47,7 @@ pub fn spread<R: Host>(
             }
         }
     }
-    say_line(rt, line.as_str(), asked.is_quiet)
+    say_line(rt, "each OUT", "is made", line.as_str(), asked.is_quiet)
 }
 
 /// Refuses the first output that is there already, or that was named before under this name or another one.

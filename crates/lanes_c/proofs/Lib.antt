@@ -10,7 +10,6 @@ pub mod TableChanging
 pub mod TableReadings
 pub mod CoverageGivings
 pub mod SpreadGivings
-pub mod HeldChanges
 pub mod Expectations
 pub mod InputArrays
 pub mod InputFaults

@@ -8,7 +8,6 @@ use Rattle.table_model.specs.declared.refusal.Refusal.{Refusal}
 use Rattle.table_model.specs.declared.refusal.Refusal.TheVariants.{Memory}
 use Rattle.column_file.specs.Files.{offer_read}
 use Rattle.replica_store.specs.Replica.{Replica}
-use Rattle.replica_store.specs.Segments.{StoreForm}
 use Rattle.replica_changes.specs.CommandForms.{CommandForm, Import, Apply, adding}
 use Rattle.replica_changes.specs.Commands.{Made}
 use Rattle.replica_changes.specs.Forgetting.{forgetting}
@@ -28,12 +27,12 @@ use Rattle.lanes_c.specs.declared.shared.Shared.{Shared}
 abbrev pub Changed : Type 0
 Changed = Result Replica Fault
 
--- the replica of a store, or why there is none
-abbrev pub changed_by : Result StoreForm Fault → Changed
-changed_by (Ok s) = Ok s.replica
-changed_by (Err fault) = Err fault
+-- the replica that a share has after a change, or why the change was refused
+abbrev pub changed_by : Result (Unit {0}) Fault → Replica → Changed
+changed_by (Ok done) r = Ok r
+changed_by (Err fault) r = Err fault
 
--- the same of a share of a store
+-- the replica of a share of a store, or why there is none
 abbrev pub shared_by : Result (Box Shared) Fault → Changed
 shared_by (Ok shared) = Ok shared.value.store.value.replica
 shared_by (Err fault) = Err fault

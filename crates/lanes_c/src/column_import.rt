@@ -1,5 +1,5 @@
 //! The call that imports columns into the table of a handle.
-ghost use Rattle.std.specs.Prelude.{◌≡◌};
+ghost use Rattle.std.specs.Prelude.{◌≡◌, OnErr};
 ghost use Rattle.lanes_c.specs.Calls.{Yields};
 ghost use Rattle.lanes_c.specs.Importing.{name_given};
 ghost use Rattle.lanes_c.specs.InputColumns.{input_of, load_of_columns, with_columns};
@@ -9,9 +9,9 @@ use crate::changing::name_given;
 use crate::fault::{Fault, Place};
 use crate::handle::Table;
 use crate::input_columns::InputColumns;
-use crate::table_changes::{put_change, tell, with_command};
+use crate::shared::Shared;
+use crate::table_changes::{put_change, tell};
 use replica_changes::{Command, Load};
-use replica_store::Store;
 use std::alloc::Global;
 use std::mem::replace;
 use table_model::{BatchName, Schema};
@@ -31,25 +31,26 @@ fn columns_loaded(
     Ok(load)
 }
 
-/// What a store has with the rows of columns.
-fn with_columns(
+/// Imports the rows of columns into a share's store.
+fn import_columns(
     alloc: Global,
-    store: &Store,
+    shared: &mut Shared,
     rows: usize,
     values: &[i64],
     valid: &[u8],
     first: Option<BatchName>,
     words: &[u64],
-) -> Result<Store, Fault>
-    ensures { Yields (changed_by result) (with_columns rows values.now valid.now first words.now store.now.replica) }
+) -> Result<(), Fault>
+    ensures made { Yields (changed_by result shared.new.store.value.replica) (with_columns rows values.now valid.now first words.now shared.old.store.value.replica) }
+    ensures kept { OnErr result (shared.new.store.value ≡ shared.old.store.value) }
 {
-    let load = columns_loaded(alloc, store.schema(), rows, values, valid)?;
+    let load = columns_loaded(alloc, shared.store.schema(), rows, values, valid)?;
     let import = Command::Import {
         load,
         given: first,
         words,
     };
-    with_command(alloc, store, import)
+    shared.change(alloc, import)
 }
 
 /// Imports rows of columns into the table of a handle, as batches of 65,536 rows, the last one shorter, under names as of
@@ -76,10 +77,10 @@ pub extern "C" fn lanes_table_import_columns(
 ) -> u8
     ensures { ChangesOpen (λ r given. Yields given (with_columns rows values.now valid.now (name_given origin number) words.now r)) result table.old table.new place.new }
 {
-    let Some(shared) = replace(table, Table::closed()).into_box(alloc) else {
+    let Some(mut shared) = replace(table, Table::closed()).into_box(alloc) else {
         return tell(Fault::NotOpen, place);
     };
     let first = name_given(origin, number);
-    let changed = with_columns(alloc, &shared.store, rows, values, valid, first, words);
+    let changed = import_columns(alloc, &mut shared, rows, values, valid, first, words);
     put_change(alloc, table, shared, changed, place)
 }

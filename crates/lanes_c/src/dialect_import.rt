@@ -1,5 +1,5 @@
 //! The calls that import comma-separated values in a dialect.
-ghost use Rattle.std.specs.Prelude.{◌≡◌};
+ghost use Rattle.std.specs.Prelude.{◌≡◌, OnErr};
 ghost use Rattle.lanes_c.specs.Dialects.{ImportsRows, ImportsRowsInto, ReadsRows};
 ghost use Rattle.lanes_c.specs.Importing.{name_given};
 ghost use Rattle.lanes_c.specs.Rooms.{Tells, given_by};
@@ -10,9 +10,9 @@ use crate::dialects::dialect_of;
 use crate::fault::{Fault, Place};
 use crate::handle::Table;
 use crate::room::hand_out;
-use crate::table_changes::{put_change, tell, with_command};
+use crate::shared::Shared;
+use crate::table_changes::{put_change, tell};
 use replica_changes::{Command, Load, file_schema};
-use replica_store::Store;
 use std::alloc::Global;
 use std::mem::replace;
 use table_model::{BatchName, Counted, Schema};
@@ -70,10 +70,10 @@ fn imported_rows(
     imported(alloc, file, load, first, words)
 }
 
-/// What a store has with the rows of a text in a dialect.
-fn with_rows(
+/// Imports the rows of a text in a dialect into a share's store.
+fn import_rows(
     alloc: Global,
-    store: &Store,
+    shared: &mut Shared,
     csv: &[u8],
     has_heading: bool,
     separator: u8,
@@ -82,12 +82,13 @@ fn with_rows(
     needs_ends: bool,
     first: Option<BatchName>,
     words: &[u64],
-) -> Result<Store, Fault>
-    ensures { ImportsRowsInto (changed_by result) (record { separator = separator; null_word = null_word.now; columns = columns.now; needs_ends = needs_ends }) csv.now has_heading first words.now store.now.replica }
+) -> Result<(), Fault>
+    ensures made { ImportsRowsInto (changed_by result shared.new.store.value.replica) (record { separator = separator; null_word = null_word.now; columns = columns.now; needs_ends = needs_ends }) csv.now has_heading first words.now shared.old.store.value.replica }
+    ensures kept { OnErr result (shared.new.store.value ≡ shared.old.store.value) }
 {
     let load = rows_loaded(
         alloc,
-        store.schema(),
+        shared.store.schema(),
         csv,
         has_heading,
         separator,
@@ -100,7 +101,7 @@ fn with_rows(
         given: first,
         words,
     };
-    with_command(alloc, store, import)
+    shared.change(alloc, import)
 }
 
 /// Imports rows of comma-separated values in a dialect, as `lanes_import` does in the usual one. The separator is the byte between two
@@ -167,13 +168,13 @@ pub extern "C" fn lanes_table_import_in(
 ) -> u8
     ensures { ChangesOpen (λ r given. ImportsRowsInto given (record { separator = separator; null_word = null_word.now; columns = columns.now; needs_ends = needs_ends }) csv.now has_heading (name_given origin number) words.now r) result table.old table.new place.new }
 {
-    let Some(shared) = replace(table, Table::closed()).into_box(alloc) else {
+    let Some(mut shared) = replace(table, Table::closed()).into_box(alloc) else {
         return tell(Fault::NotOpen, place);
     };
     let first = name_given(origin, number);
-    let changed = with_rows(
+    let changed = import_rows(
         alloc,
-        &shared.store,
+        &mut shared,
         csv,
         has_heading,
         separator,

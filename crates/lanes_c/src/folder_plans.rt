@@ -5,6 +5,7 @@ ghost use Rattle.lanes_c.specs.FolderPlans.{ReadsHead, empty_head, head_by};
 
 use crate::fault::{Fault, Place};
 use crate::handle::Table;
+use crate::opening::put;
 use crate::shared::Shared;
 use crate::table_changes::tell;
 use folder_parts::{packed_prefix, part_head};
@@ -63,7 +64,7 @@ pub extern "C" fn lanes_head(
                 batches: count,
             },
         ) => {
-            drop(replace(table, Table::of_box(shared)).into_box(alloc));
+            put(alloc, table, shared);
             *batches = count;
             *place = Place::nowhere();
             0

@@ -1,48 +1,50 @@
 //! The call that deletes rows of a batch of a handle's table only if the table has the batch.
-ghost use Rattle.std.specs.Prelude.{◌≡◌};
+ghost use Rattle.std.specs.Prelude.{◌≡◌, OnErr};
 ghost use Rattle.lanes_c.specs.Calls.{Yields};
 ghost use Rattle.lanes_c.specs.HeldRows.{CountsHeld, held_count, without_held_range, without_range_if};
 ghost use Rattle.lanes_c.specs.TableChanges.{ChangesOpen, changed_by, row_name};
 
 use crate::fault::{Fault, Place};
 use crate::handle::Table;
-use crate::table_changes::{copy_of, put_change, row_name, tell, with_command};
-use replica_changes::Command;
-use replica_store::Store;
+use crate::shared::Shared;
+use crate::table_changes::{put_change, row_name, tell};
+use replica_changes::{Command, bring};
 use std::alloc::Global;
 use std::mem::replace;
 use table_model::RowName;
 
-/// What a store has without a range of rows of a batch, if it has the batch, and else what it has.
-fn without_range_if(
+/// Deletes a range of rows of a batch if the batch is held. What the range is refused as is refused in both cases.
+fn delete_range_if(
     alloc: Global,
-    store: &Store,
+    shared: &mut Shared,
     first: RowName,
     last: u16,
     is_held: bool,
-) -> Result<Store, Fault>
-    ensures { Yields (changed_by result) (without_range_if is_held first last store.now.replica) }
+) -> Result<(), Fault>
+    ensures made { Yields (changed_by result shared.new.store.value.replica) (without_range_if is_held first last shared.old.store.value.replica) }
+    ensures kept { OnErr result (shared.new.store.value ≡ shared.old.store.value) }
 {
-    let changed = with_command(alloc, store, Command::DeleteRows { first, last })?;
+    let command = Command::DeleteRows { first, last };
     if is_held {
-        return Ok(changed);
+        return shared.change(alloc, command);
     }
-    drop(changed);
-    Ok(copy_of(alloc, store)?)
+    drop(bring(alloc, &shared.store, command)?);
+    Ok(())
 }
 
 /// The same, with how many batches of that name the store has.
-fn held_change(
+fn delete_held_range(
     alloc: Global,
-    store: &Store,
+    shared: &mut Shared,
     first: RowName,
     last: u16,
-) -> (Result<Store, Fault>, usize)
-    ensures changed { Yields (changed_by result.0) (without_held_range first last store.now.replica) }
-    ensures held { result.1 ≡ held_count store.now.replica first.batch }
+) -> (Result<(), Fault>, usize)
+    ensures made { Yields (changed_by result.0 shared.new.store.value.replica) (without_held_range first last shared.old.store.value.replica) }
+    ensures kept { OnErr result.0 (shared.new.store.value ≡ shared.old.store.value) }
+    ensures held { result.1 ≡ held_count shared.old.store.value.replica first.batch }
 {
-    let is_held = store.holds(first.batch);
-    let changed = without_range_if(alloc, store, first, last, is_held);
+    let is_held = shared.store.holds(first.batch);
+    let changed = delete_range_if(alloc, shared, first, last, is_held);
     (changed, usize::from(is_held))
 }
 
@@ -65,12 +67,12 @@ pub extern "C" fn lanes_table_delete_held_rows(
     ensures changed { ChangesOpen (λ r given. Yields given (without_held_range (row_name origin number first) last r)) result table.old table.new place.new }
     ensures held { CountsHeld held.new table.old (row_name origin number first) }
 {
-    let Some(shared) = replace(table, Table::closed()).into_box(alloc) else {
+    let Some(mut shared) = replace(table, Table::closed()).into_box(alloc) else {
         *held = 0;
         return tell(Fault::NotOpen, place);
     };
     let first = row_name(origin, number, first);
-    let (changed, count) = held_change(alloc, &shared.store, first, last);
+    let (changed, count) = delete_held_range(alloc, &mut shared, first, last);
     *held = count;
     put_change(alloc, table, shared, changed, place)
 }

@@ -11,7 +11,7 @@ use std::alloc::{AllocError, Global};
 use table_model::{BatchName, Number, Origin, Refusal};
 
 /// The library's version, which is the program's.
-const VERSION: &str = "0.12.0";
+const VERSION: &str = "0.12.1";
 
 /// What is said of a separator that can't be one.
 const NO_SEPARATOR: &str =
@@ -252,10 +252,10 @@ pub extern "C" fn lanes_sentence(alloc: Global, number: u8, place: &Place, room:
     }
 }
 
-/// Gives the library's version, as `0.12.0`, and its length.
+/// Gives the library's version, as `0.12.1`, and its length.
 #[unsafe(no_mangle)]
 pub extern "C" fn lanes_version(room: &mut [u8]) -> usize
-    ensures { IsFilled (λ text. text ≡ codes "0.12.0") result room.old room.new }
+    ensures { IsFilled (λ text. text ≡ codes "0.12.1") result room.old room.new }
 {
     fill(VERSION.as_bytes(), room);
     VERSION.len()

@@ -1,5 +1,5 @@
 //! The calls on a file that stays open: opening it, a second handle of it, a query, and closing the handle.
-ghost use Rattle.std.specs.Prelude.{◌≡◌, IfOk, IfErr, List, Ok, ℕ};
+ghost use Rattle.std.specs.Prelude.{◌≡◌, IfOk, IfErr, List, Ok, Some, ℕ};
 ghost use Rattle.lanes_c.specs.Calls.{Yields, Asks, query_of};
 ghost use Rattle.lanes_c.specs.Opened.{IsWhyNotOpened, Opens, AsksOpen, Shares, TakesKey, IsClosed, answered_at};
 ghost use Rattle.lanes_c.specs.Rooms.{given_by};
@@ -73,16 +73,29 @@ fn asked_of(alloc: Global, shared: &Shared, sql: &[u8]) -> Result<Vec<u8>, Fault
     answered_over(alloc, &shared.store, shared.hash_key, sql)
 }
 
+/// Puts a share into a handle. What the handle had is closed, and its key is kept: it is the share's from then on.
+pub(crate) fn put(alloc: Global, table: &mut Table, shared: Box<Shared>)
+    ensures { table.new.replica ≡ Some shared.value.store.value.replica }
+{
+    let mut shared = shared;
+    if let Some(old) = replace(table, Table::closed()).into_box(alloc) {
+        shared.set_hash_key(old.hash_key);
+        drop(old);
+    }
+    drop(replace(table, Table::of_box(shared)).into_box(alloc));
+}
+
 /// Opens a file: it is judged once, and what it holds is kept until the last handle of it is closed. The bytes may go then.
 ///
-/// Refused is the file's first fault, and then the handle stays as it was. A handle that is open is closed first if 0 is answered.
+/// Refused is the file's first fault, and then the handle stays as it was. A handle that is open is closed first if 0 is answered; its key
+/// stays.
 #[unsafe(no_mangle)]
 pub extern "C" fn lanes_open(alloc: Global, file: &[u8], table: &mut Table, place: &mut Place) -> u8
     ensures { Opens result file.now table.old table.new place.new }
 {
     match opened(alloc, file) {
         Ok(shared) => {
-            drop(replace(table, Table::of_box(shared)).into_box(alloc));
+            put(alloc, table, shared);
             *place = Place::nowhere();
             0
         }

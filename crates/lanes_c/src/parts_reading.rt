@@ -5,6 +5,7 @@ ghost use Rattle.lanes_c.specs.TableChanges.{IsShared, TellsChange, shared_by};
 
 use crate::fault::{Fault, Place};
 use crate::handle::Table;
+use crate::opening::put;
 use crate::parts_handle::FolderParts;
 use crate::read_parts::ReadParts;
 use crate::shared::Shared;
@@ -90,7 +91,7 @@ fn put_share(
 {
     match opened {
         Ok(shared) => {
-            drop(replace(table, Table::of_box(shared)).into_box(alloc));
+            put(alloc, table, shared);
             *place = Place::nowhere();
             0
         }
@@ -99,7 +100,7 @@ fn put_share(
 }
 
 /// Opens what the parts of a handle hold together as a table, and closes the parts' handle. A table that the other handle has is closed
-/// first if 0 is answered.
+/// first if 0 is answered; its key stays.
 ///
 /// Refused is `NotOpen` if no part was taken.
 #[unsafe(no_mangle)]

@@ -85,7 +85,6 @@ fn known_of<'a>(
         separator,
         wanted,
         is_header,
-        field: csv.faulty_field(column),
         column: csv.column_of(column),
     };
     found.known(column, schema)

@@ -5,6 +5,7 @@ ghost use Rattle.lanes_c.specs.Skimming.{AnswersAs, OpensSkim, SkimsMore, SkimsN
 
 use crate::fault::{Fault, Place};
 use crate::handle::Table;
+use crate::opening::put;
 use crate::shared::Shared;
 use crate::skim_handle::FolderSkim;
 use crate::table_changes::tell;
@@ -136,7 +137,7 @@ pub extern "C" fn lanes_skim_open(
                 batches: count,
             },
         ) => {
-            drop(replace(table, Table::of_box(shared)).into_box(alloc));
+            put(alloc, table, shared);
             *batches = count;
             *place = Place::nowhere();
             0

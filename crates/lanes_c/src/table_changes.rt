@@ -1,11 +1,10 @@
 //! The calls that change the table of a handle: an import, deletes, an offer, a forget.
-ghost use Rattle.std.specs.Prelude.{◌≡◌, Ok, Some};
-ghost use Rattle.table_model.specs.Outcome.{Gives};
-ghost use Rattle.replica_changes.specs.CommandForms.{Delete, DeleteRows, command_of};
+ghost use Rattle.std.specs.Prelude.{◌≡◌, Some, OnErr};
+ghost use Rattle.replica_changes.specs.CommandForms.{Delete, DeleteRows};
 ghost use Rattle.lanes_c.specs.Calls.{Yields, Asks};
 ghost use Rattle.lanes_c.specs.Importing.{name_given};
 ghost use Rattle.lanes_c.specs.Opened.{IsToldAs};
-ghost use Rattle.lanes_c.specs.TableChanges.{ChangesOpen, ImportsText, IsShared, TellsChange, changed_by, row_name, shared_by, with_command, with_offer, without_dead};
+ghost use Rattle.lanes_c.specs.TableChanges.{ChangesOpen, ImportsText, changed_by, number_of_change, place_of_change, row_name, with_command, with_offer, without_dead};
 
 use crate::changing::{loaded, name_given};
 use crate::fault::{Fault, Place};
@@ -13,92 +12,50 @@ use crate::handle::Table;
 use crate::shared::Shared;
 use crate::taking::text_of;
 use column_file::read_offer;
-use query_eval::HashKey;
-use replica_changes::{Command, change_store};
-use replica_store::{Store, Summary};
+use replica_changes::Command;
 use std::alloc::Global;
 use std::boxed::Box;
 use std::mem::replace;
-use table_model::{BatchName, Counted, Number, Origin, Refusal, RowName};
+use table_model::{BatchName, Counted, Number, Origin, RowName};
 
-/// A copy of a store.
-pub(crate) fn copy_of(alloc: Global, store: &Store) -> Result<Store, Refusal>
-    ensures { Gives (λ copy. copy.replica) result (Ok store.now.replica) }
-{
-    let nothing = Summary::empty(alloc, store.schema())?;
-    let all = store.offer(alloc, &nothing)?;
-    all.into_store(alloc, store.own())
-}
-
-/// What a store has once a command was done on it.
-pub(crate) fn with_command(
-    alloc: Global,
-    store: &Store,
-    command: Command<'_>,
-) -> Result<Store, Fault>
-    ensures { Yields (changed_by result) (with_command (command_of command.entry) store.now.replica) }
-{
-    let copy = copy_of(alloc, store)?;
-    let (_answer, changed) = change_store(alloc, copy, command)?;
-    Ok(changed)
-}
-
-/// What a store has without the rows at which a condition in bytes is true.
-fn without_rows_where(alloc: Global, store: &Store, condition: &[u8]) -> Result<Store, Fault>
-    ensures { Asks (changed_by result) condition.now (with_command (Delete condition.now) store.now.replica) }
+/// Deletes the rows of a share's store at which a condition in bytes is true.
+fn delete_where(alloc: Global, shared: &mut Shared, condition: &[u8]) -> Result<(), Fault>
+    ensures made { Asks (changed_by result shared.new.store.value.replica) condition.now (with_command (Delete condition.now) shared.old.store.value.replica) }
+    ensures kept { OnErr result (shared.new.store.value ≡ shared.old.store.value) }
 {
     let text = text_of(condition)?;
-    with_command(alloc, store, Command::Delete { condition: text })
+    shared.change(alloc, Command::Delete { condition: text })
 }
 
-/// What a store has without the batches of which every row is deleted.
-fn without_dead(alloc: Global, store: &Store) -> Result<Store, Fault>
-    ensures { Yields (changed_by result) (without_dead store.now.replica) }
-{
-    let mut changed = copy_of(alloc, store)?;
-    changed.forget(alloc)?;
-    Ok(changed)
-}
-
-/// What a store has with what an offer brings.
-fn with_offer(alloc: Global, store: &Store, offer: &[u8]) -> Result<Store, Fault>
-    ensures { Yields (changed_by result) (with_offer offer.now store.now.replica) }
+/// Applies an offer in bytes to a share's store.
+fn apply_offer(alloc: Global, shared: &mut Shared, offer: &[u8]) -> Result<(), Fault>
+    ensures made { Yields (changed_by result shared.new.store.value.replica) (with_offer offer.now shared.old.store.value.replica) }
+    ensures kept { OnErr result (shared.new.store.value ≡ shared.old.store.value) }
 {
     let offer = read_offer(alloc, &mut Counted::new(offer))?;
     let offers = vec![in alloc; offer]?;
-    with_command(alloc, store, Command::Apply { offers })
+    shared.change(alloc, Command::Apply { offers })
 }
 
-/// What a store has with the rows of a text.
-fn with_text(
+/// Imports the rows of a text into a share's store.
+fn import_text(
     alloc: Global,
-    store: &Store,
+    shared: &mut Shared,
     csv: &[u8],
     has_heading: bool,
     first: Option<BatchName>,
     words: &[u64],
-) -> Result<Store, Fault>
-    ensures { ImportsText (changed_by result) csv.now has_heading first words.now store.now.replica }
+) -> Result<(), Fault>
+    ensures made { ImportsText (changed_by result shared.new.store.value.replica) csv.now has_heading first words.now shared.old.store.value.replica }
+    ensures kept { OnErr result (shared.new.store.value ≡ shared.old.store.value) }
 {
-    let load = loaded(alloc, store.schema(), csv, has_heading)?;
+    let load = loaded(alloc, shared.store.schema(), csv, has_heading)?;
     let import = Command::Import {
         load,
         given: first,
         words,
     };
-    with_command(alloc, store, import)
-}
-
-/// The first share of what a change made, by the key of what it was made of.
-fn share_of(
-    alloc: Global,
-    hash_key: HashKey,
-    changed: Result<Store, Fault>,
-) -> Result<Box<Shared>, Fault>
-    ensures { IsShared (changed_by changed) (shared_by result) }
-{
-    let store = changed?;
-    Ok(Shared::new(alloc, hash_key, store)?)
+    shared.change(alloc, import)
 }
 
 /// Tells a caller of a fault.
@@ -109,26 +66,25 @@ pub(crate) fn tell(fault: Fault, place: &mut Place) -> u8
     fault.number()
 }
 
-/// Puts into a handle what a change made of what it had, or, if the change was refused, what it had. It tells a caller which.
+/// Gives a handle its share back, and tells a caller what came of a change.
 pub(crate) fn put_change(
     alloc: Global,
     table: &mut Table,
     shared: Box<Shared>,
-    changed: Result<Store, Fault>,
+    changed: Result<(), Fault>,
     place: &mut Place,
 ) -> u8
-    ensures { TellsChange (λ given. IsShared (changed_by changed) given) result (Some shared.value.store.value.replica) table.new.replica place.new }
+    ensures number { result ≡ number_of_change (changed_by changed shared.value.store.value.replica) }
+    ensures table { table.new.replica ≡ Some shared.value.store.value.replica }
+    ensures place { place.new ≡ place_of_change (changed_by changed shared.value.store.value.replica) }
 {
-    match share_of(alloc, shared.hash_key, changed) {
-        Ok(changed) => {
-            drop(replace(table, Table::of_box(changed)).into_box(alloc));
+    drop(replace(table, Table::of_box(shared)).into_box(alloc));
+    match changed {
+        Ok(()) => {
             *place = Place::nowhere();
             0
         }
-        Err(fault) => {
-            drop(replace(table, Table::of_box(shared)).into_box(alloc));
-            tell(fault, place)
-        }
+        Err(fault) => tell(fault, place),
     }
 }
 
@@ -150,11 +106,11 @@ pub extern "C" fn lanes_table_import(
 ) -> u8
     ensures { ChangesOpen (λ r given. ImportsText given csv.now has_heading (name_given origin number) words.now r) result table.old table.new place.new }
 {
-    let Some(shared) = replace(table, Table::closed()).into_box(alloc) else {
+    let Some(mut shared) = replace(table, Table::closed()).into_box(alloc) else {
         return tell(Fault::NotOpen, place);
     };
     let first = name_given(origin, number);
-    let changed = with_text(alloc, &shared.store, csv, has_heading, first, words);
+    let changed = import_text(alloc, &mut shared, csv, has_heading, first, words);
     put_change(alloc, table, shared, changed, place)
 }
 
@@ -171,10 +127,10 @@ pub extern "C" fn lanes_table_delete(
 ) -> u8
     ensures { ChangesOpen (λ r given. Asks given condition.now (with_command (Delete condition.now) r)) result table.old table.new place.new }
 {
-    let Some(shared) = replace(table, Table::closed()).into_box(alloc) else {
+    let Some(mut shared) = replace(table, Table::closed()).into_box(alloc) else {
         return tell(Fault::NotOpen, place);
     };
-    let changed = without_rows_where(alloc, &shared.store, condition);
+    let changed = delete_where(alloc, &mut shared, condition);
     put_change(alloc, table, shared, changed, place)
 }
 
@@ -205,11 +161,11 @@ pub extern "C" fn lanes_table_delete_rows(
 ) -> u8
     ensures { ChangesOpen (λ r given. Yields given (with_command (DeleteRows (row_name origin number first) last) r)) result table.old table.new place.new }
 {
-    let Some(shared) = replace(table, Table::closed()).into_box(alloc) else {
+    let Some(mut shared) = replace(table, Table::closed()).into_box(alloc) else {
         return tell(Fault::NotOpen, place);
     };
     let first = row_name(origin, number, first);
-    let changed = with_command(alloc, &shared.store, Command::DeleteRows { first, last });
+    let changed = shared.change(alloc, Command::DeleteRows { first, last });
     put_change(alloc, table, shared, changed, place)
 }
 
@@ -226,10 +182,10 @@ pub extern "C" fn lanes_table_apply(
 ) -> u8
     ensures { ChangesOpen (λ r given. Yields given (with_offer offer.now r)) result table.old table.new place.new }
 {
-    let Some(shared) = replace(table, Table::closed()).into_box(alloc) else {
+    let Some(mut shared) = replace(table, Table::closed()).into_box(alloc) else {
         return tell(Fault::NotOpen, place);
     };
-    let changed = with_offer(alloc, &shared.store, offer);
+    let changed = apply_offer(alloc, &mut shared, offer);
     put_change(alloc, table, shared, changed, place)
 }
 
@@ -240,9 +196,9 @@ pub extern "C" fn lanes_table_apply(
 pub extern "C" fn lanes_table_forget(alloc: Global, table: &mut Table, place: &mut Place) -> u8
     ensures { ChangesOpen (λ r given. Yields given (without_dead r)) result table.old table.new place.new }
 {
-    let Some(shared) = replace(table, Table::closed()).into_box(alloc) else {
+    let Some(mut shared) = replace(table, Table::closed()).into_box(alloc) else {
         return tell(Fault::NotOpen, place);
     };
-    let changed = without_dead(alloc, &shared.store);
+    let changed = shared.forget(alloc);
     put_change(alloc, table, shared, changed, place)
 }

@@ -14,7 +14,7 @@ pub enum Reply {
     Forgotten(Forgotten),
 }
 
-/// What came of a change.
+/// What a command answers, and whether its file or folder changed and is synced.
 #[derive(Drop)]
 pub struct Done {
     reply: Reply,
@@ -40,7 +40,7 @@ impl Done {
         }
     }
 
-    /// How it left that.
+    /// Whether the file or the folder changed, and is synced.
     pub fn left(&self) -> Left {
         self.left
     }

@@ -12,4 +12,4 @@ pub use done::{Done, Reply};
 pub use heads::{Head, Headed, Heads, schema_in};
 pub use loading::{DRAWS, load_of, random_words};
 pub use offers::{OfferTables, batches_of, read_offers};
-pub use said::{say, say_left, say_line};
+pub use said::{CHANGED, UNCHANGED, say, say_left, say_line};

@@ -19,10 +19,11 @@ const NO_RANDOM: &str =
 /// How many random words an import may draw a name with.
 pub const DRAWS: usize = 16;
 
-/// The rows of comma-separated values, of one text after another, coded in batches of a table.
+/// The rows of comma-separated values, of one text after another, coded in batches of a table. `file` is what has the table.
 pub fn load_of<'r, R: Host>(
     rt: &'r R,
     progress: &'r Progress<'r, R>,
+    file: &str,
     csvs: &[Source<'_>],
     schema: &Schema,
     form: CsvForm<'_>,
@@ -30,7 +31,8 @@ pub fn load_of<'r, R: Host>(
     let mut load = Load::new(rt.alloc(), schema)?;
     for csv in csvs {
         let mut reader = source_of(rt, progress, *csv);
-        add_rows(rt, *csv, &mut reader, schema, form, &mut load)?;
+        let dialect = dialect_of(rt.alloc(), file, schema, form)?;
+        add_rows(rt, *csv, &mut reader, dialect, schema, form, &mut load)?;
     }
     Ok(load)
 }
@@ -54,16 +56,12 @@ fn add_rows<R: Files + AllocGlobal, D: Read>(
     rt: &R,
     source: Source<'_>,
     reader: &mut Counted<D>,
+    dialect: Dialect,
     schema: &Schema,
     form: CsvForm<'_>,
     load: &mut Load,
 ) -> Result<(), Failure> {
-    let mut csv = CsvReader::in_dialect(
-        rt.alloc(),
-        schema,
-        form.has_header,
-        dialect_of(rt.alloc(), schema, form)?,
-    )?;
+    let mut csv = CsvReader::in_dialect(rt.alloc(), schema, form.has_header, dialect)?;
     match read_csv(rt.alloc(), &mut csv, reader, load) {
         Ok(()) => Ok(()),
         Err(CsvError::Refused(refusal)) => {
@@ -85,7 +83,12 @@ fn add_rows<R: Files + AllocGlobal, D: Read>(
 }
 
 /// The dialect in which texts are written.
-fn dialect_of(alloc: Global, schema: &Schema, form: CsvForm<'_>) -> Result<Dialect, Failure> {
+fn dialect_of(
+    alloc: Global,
+    file: &str,
+    schema: &Schema,
+    form: CsvForm<'_>,
+) -> Result<Dialect, Failure> {
     let null_word = match form.null_word {
         None => None,
         Some(word) => Some(String::from_str(alloc, word)?),
@@ -99,19 +102,19 @@ fn dialect_of(alloc: Global, schema: &Schema, form: CsvForm<'_>) -> Result<Diale
     };
     match Order::of_words(alloc, schema.column_list(), words.as_bytes()) {
         Ok(order) => Ok(dialect.with_order(order)),
-        Err(WordError::NoNewColumn(word)) => Err(no_column(alloc, schema, words, word)),
+        Err(WordError::NoNewColumn(word)) => Err(no_column(alloc, file, schema, words, word)),
         Err(WordError::Memory) => Err(Failure::from(Refusal::Memory)),
     }
 }
 
 /// The refusal of a word that names no column, by its place in a list, from 1.
-fn no_column(alloc: Global, schema: &Schema, words: &str, place: u64) -> Failure {
+fn no_column(alloc: Global, file: &str, schema: &Schema, words: &str, place: u64) -> Failure {
     let before = words.split(',').take(place.saturating_sub(1) as usize);
     let at = before.fold(
         0u64,
         |at, word| at.saturating_add(word.len() as u64).saturating_add(1),
     );
-    Failure::of_name(alloc, "--columns", words, at, schema)
+    Failure::of_name(alloc, file, words, at, schema)
 }
 
 /// A fault of comma-separated values.
@@ -138,7 +141,6 @@ fn known_of_field<'a>(
         separator: form.separator,
         wanted: Wanted::of(schema, form.columns),
         is_header: form.has_header && is_first,
-        field: csv.faulty_field(column),
         column: csv.column_of(column),
     };
     line.known(column, schema)

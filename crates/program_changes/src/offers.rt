@@ -4,13 +4,10 @@ use catalogue_join::Held;
 use command_line::Source;
 use program_failures::{Failure, unread_by};
 use program_inputs::{Host, Progress, SourceReader, is_folder, source_of};
-use refusal_sentences::CommandRefusal;
+use refusal_sentences::{CommandRefusal, Printable};
 use replica_store::Offer;
 use std::alloc::{AllocError, Global};
 use table_model::{Refusal, Schema};
-
-/// What to do instead of applying a folder.
-const NO_OFFER: &str = "this is a folder: apply its parts, as OFFER/*.lanes";
 
 /// The offers of these sources, one after another.
 pub fn read_offers<'r, R: Host>(
@@ -38,9 +35,19 @@ fn unread_offer<R: Host>(
 ) -> Failure {
     match source {
         Source::File(name) if refusal == Refusal::ReadFault && is_folder(rt, name) => {
-            Failure::advised(rt.alloc(), CommandRefusal::from(refusal), name, NO_OFFER)
+            no_offer(rt.alloc(), refusal, name)
         }
         _ => unread_by(rt, CommandRefusal::from(refusal), source, reader),
+    }
+}
+
+/// The refusal of a folder of this name that is no offer, and what to apply instead.
+fn no_offer(alloc: Global, refusal: Refusal, name: &str) -> Failure {
+    let folder = Printable(name.trim_end_matches('/'));
+    let refusal = CommandRefusal::from(refusal);
+    match format!(in alloc; "this is a folder: apply its parts, as {folder}/*.lanes") {
+        Ok(words) => Failure::advised(alloc, refusal, name, words.as_str()),
+        Err(lacking) => Failure::from(lacking),
     }
 }
 

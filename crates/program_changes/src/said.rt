@@ -8,15 +8,26 @@ use program_inputs::Home;
 use refusal_sentences::Printable;
 use replica_changes::Imported;
 
-/// Says what came of a change, unless that is to be quiet. If that can't be written, the change is made all the same.
+/// What is said of a file or a folder that was changed, if the answer could not be written.
+pub const CHANGED: &str = "has the change";
+
+/// What is said of one that was not changed.
+pub const UNCHANGED: &str = "is as it was";
+
+/// Says what came of a change, unless that is to be quiet. If that can't be written, the change is made all the same, and the sentence
+/// says so.
 pub fn say<R: Print + Eprint + AllocGlobal>(
     rt: &R,
     home: Home<'_>,
     done: &Done,
     is_quiet: bool,
 ) -> Result<(), Failure> {
-    let line = format!(in rt.alloc(); "{done}\n")?;
-    let told = say_line(rt, line.as_str(), is_quiet);
+    let (name, left) = (home.name(), words_of(done.left()));
+    let told = match format!(in rt.alloc(); "{done}\n") {
+        Ok(line) => say_line(rt, name, left, line.as_str(), is_quiet),
+        Err(_) if is_quiet => Ok(()),
+        Err(lacking) => Err(Failure::from(lacking).after(rt.alloc(), name, left)),
+    };
     if let Some(imported) = done.imported() {
         say_deleted(rt, imported);
     }
@@ -24,12 +35,29 @@ pub fn say<R: Print + Eprint + AllocGlobal>(
     told
 }
 
-/// Says a line of what was done, unless that is to be quiet.
-pub fn say_line<R: Print + AllocGlobal>(rt: &R, line: &str, is_quiet: bool) -> Result<(), Failure> {
+/// How a change leaves what it is about, for the sentence of an answer that can't be written.
+fn words_of(left: Left) -> &'static str {
+    match left {
+        Left::Changed(_) => CHANGED,
+        Left::Kept | Left::KeptUnsynced => UNCHANGED,
+    }
+}
+
+/// Says a line of what was done, unless that is to be quiet. If it can't be written, these words say how what has this name is left.
+pub fn say_line<R: Print + AllocGlobal>(
+    rt: &R,
+    name: &str,
+    left: &str,
+    line: &str,
+    is_quiet: bool,
+) -> Result<(), Failure> {
     if is_quiet {
         return Ok(());
     }
-    write_line(rt, line.as_bytes())
+    match write_line(rt, line.as_bytes()) {
+        Ok(()) => Ok(()),
+        Err(failure) => Err(failure.after(rt.alloc(), name, left)),
+    }
 }
 
 /// Says on standard error how many of the rows that an import brought were deleted already, if there are such.

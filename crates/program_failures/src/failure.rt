@@ -115,11 +115,6 @@ impl Failure {
         Failure::said_of(alloc, refusal, "", Knowledge::Nothing)
     }
 
-    /// A refusal of an argument, which has no places.
-    pub fn of_argument(alloc: Global, refusal: CommandRefusal) -> Failure {
-        Failure::said_of(alloc, refusal, "", Knowledge::Argument)
-    }
-
     /// A refusal of what is read from a file, or written to it.
     pub fn of_file<R: Files + AllocGlobal>(rt: &R, refusal: CommandRefusal, name: &str) -> Failure {
         let knowledge = match refusal {
@@ -226,10 +221,17 @@ impl Failure {
         )
     }
 
-    /// A refusal of a text, which it may have a place in: that is shown at a terminal.
-    pub fn of_text(alloc: Global, refusal: Refusal, subject: &str, text: Text<'_>) -> Failure {
+    /// A refusal of a text for a file or a folder, which it may have a place in: that is shown at a terminal.
+    pub fn of_text(
+        alloc: Global,
+        refusal: Refusal,
+        file: &str,
+        subject: &str,
+        text: Text<'_>,
+    ) -> Failure {
+        let file = Printable(file);
         let sentence = match sentence_of_text(alloc, refusal, subject, text) {
-            Ok(sentence) => format!(in alloc; "{sentence}\n").ok(),
+            Ok(sentence) => format!(in alloc; "{file}: {sentence}\n").ok(),
             Err(_) => None,
         };
         Failure {
@@ -240,26 +242,39 @@ impl Failure {
         }
     }
 
-    /// A refusal of a table that is to be made, of this name and these columns.
-    pub fn of_names(alloc: Global, table: &str, columns: &[(&str, ColType)]) -> Failure {
+    /// A refusal of a table that is to be made in a file or a folder, of this name and these columns.
+    pub fn of_names(
+        alloc: Global,
+        file: &str,
+        table: &str,
+        columns: &[(&str, ColType)],
+    ) -> Failure {
         let refusal = CommandRefusal::from(Refusal::BadSchema);
-        Failure::said_of(alloc, refusal, "", Knowledge::of_table(table, columns))
+        Failure::said_of(alloc, refusal, file, Knowledge::of_table(table, columns))
     }
 
-    /// A refusal of the name that begins at a byte of a list of columns, which was given with an option.
-    pub fn of_name(alloc: Global, option: &str, list: &str, at: u64, schema: &Schema) -> Failure {
+    /// A refusal of the name that begins at a byte of a list of columns, which was given with `--columns`.
+    pub fn of_name(alloc: Global, file: &str, list: &str, at: u64, schema: &Schema) -> Failure {
         let refusal = Refusal::NoSuchColumn(at);
-        let knowledge = Knowledge::of_name(list, ',', at, schema);
+        let sentence = Sentence {
+            refusal: CommandRefusal::from(refusal),
+            subject: "--columns",
+            knowledge: Knowledge::of_name(list, ',', at, schema),
+        };
+        let file = Printable(file);
         Failure {
+            fault: Fault::from(refusal),
+            sentence: format!(in alloc; "{file}: {sentence}\n").ok(),
             pointer: pointer_at(alloc, list, refusal),
-            ..Failure::said_of(alloc, CommandRefusal::from(refusal), option, knowledge)
+            stream: Stream::None,
         }
     }
 
-    /// A refusal of a condition over a table, if its table is known.
+    /// A refusal of a condition over the table of a file or a folder, if its table is known.
     pub fn of_condition(
         alloc: Global,
         refusal: Refusal,
+        file: &str,
         subject: &str,
         condition: &str,
         schema: Option<&Schema>,
@@ -269,7 +284,7 @@ impl Failure {
             is_condition: true,
             schema,
         };
-        Failure::of_text(alloc, refusal, subject, text)
+        Failure::of_text(alloc, refusal, file, subject, text)
     }
 
     /// A refusal of a change of a file or a folder, if no more is known of it.
@@ -280,13 +295,11 @@ impl Failure {
     ) -> Failure {
         match refusal {
             CommandRefusal::Named(Refusal::BadRange(_)) => {
-                Failure::of_argument(rt.alloc(), refusal)
+                Failure::said_of(rt.alloc(), refusal, name, Knowledge::Argument)
             }
             CommandRefusal::Named(Refusal::Conflict(_)) => {
                 Failure::of_held(rt.alloc(), refusal, name)
             }
-            CommandRefusal::Named(Refusal::BadName | Refusal::BadSchema | Refusal::NumbersSpent) =>
-                Failure::of(rt.alloc(), refusal),
             _ => Failure::of_file(rt, refusal, name),
         }
     }
@@ -294,19 +307,16 @@ impl Failure {
     /// The failure of this command, which is about this name. If memory ran out, and nothing is said of that yet, it is said of the name.
     /// What is said of a standard stream begins with the command and the name.
     pub fn about(self, alloc: Global, command: &str, name: &str) -> Failure {
-        if self.sentence.is_none() && self.is_of_memory() {
-            let refusal = CommandRefusal::from(Refusal::Memory);
-            return Failure::said_of(alloc, refusal, name, Knowledge::Nothing);
-        }
-        if self.stream != Stream::Standard {
-            return self;
+        let failure = self.with_sentence(alloc, name);
+        if failure.stream != Stream::Standard {
+            return failure;
         }
         let Failure {
             fault,
             sentence,
             pointer,
             stream,
-        } = self;
+        } = failure;
         let sentence = match sentence {
             Some(said) => match of_command(alloc, command, name, said.as_str()) {
                 Ok(whole) => Some(whole),
@@ -320,6 +330,42 @@ impl Failure {
             pointer,
             stream,
         }
+    }
+
+    /// The failure to write what a command says of its change of what has this name: how that is left is said too, in these words, unless
+    /// the reader has gone.
+    pub fn after(self, alloc: Global, name: &str, left: &str) -> Failure {
+        if self.stream == Stream::Unread {
+            return self;
+        }
+        let Failure {
+            fault,
+            sentence,
+            pointer,
+            stream,
+        } = self.with_sentence(alloc, name);
+        let sentence = match sentence {
+            Some(said) => match with_end(alloc, said.as_str(), name, left) {
+                Ok(whole) => Some(whole),
+                Err(_) => Some(said),
+            },
+            None => None,
+        };
+        Failure {
+            fault,
+            sentence,
+            pointer,
+            stream,
+        }
+    }
+
+    /// The failure with a sentence, which is said of this name, if memory ran out and nothing is said of that yet.
+    fn with_sentence(self, alloc: Global, name: &str) -> Failure {
+        if self.sentence.is_none() && self.is_of_memory() {
+            let refusal = CommandRefusal::from(Refusal::Memory);
+            return Failure::said_of(alloc, refusal, name, Knowledge::Nothing);
+        }
+        self
     }
 
     /// Whether memory ran out.
@@ -359,6 +405,12 @@ fn text_or_nothing(text: &Option<String>) -> &str {
         Some(text) => text.as_str(),
         None => "",
     }
+}
+
+/// What is said of an answer that could not be written, and how the command left what has this name.
+fn with_end(alloc: Global, said: &str, name: &str, left: &str) -> Result<String, AllocError> {
+    let name = Printable(name);
+    format!(in alloc; "{said}{name} {left}; only the answer could not be written\n")
 }
 
 /// What is said of a standard stream of a command, with the command and what it is about before it, unless that is standard input.

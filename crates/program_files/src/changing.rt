@@ -46,7 +46,7 @@ pub fn import<R: Host>(
     form: CsvForm<'_>,
 ) -> Result<Done, Failure> {
     let schema = schema_ahead(rt, file)?;
-    let load = match load_of(rt, progress, csvs, &schema, form) {
+    let load = match load_of(rt, progress, file, csvs, &schema, form) {
         Ok(load) => load,
         Err(fault) => {
             let _schema = schema_of(rt, file)?;
@@ -235,7 +235,7 @@ fn refused<R: Files + AllocGlobal>(
 ) -> Failure {
     match (refusal, about) {
         (CommandRefusal::Named(refusal), About::Condition(condition)) if is_of_a_text(refusal) => {
-            Failure::of_condition(rt.alloc(), refusal, "", condition, schema)
+            Failure::of_condition(rt.alloc(), refusal, file, "", condition, schema)
         }
         (CommandRefusal::Named(Refusal::SchemaDiffers), About::Offers { tables, sources }) => {
             match schema {
@@ -250,7 +250,7 @@ fn refused<R: Files + AllocGlobal>(
             }
         }
         (CommandRefusal::Named(Refusal::BadSchema), About::Table { table, columns }) => {
-            Failure::of_names(rt.alloc(), table, columns)
+            Failure::of_names(rt.alloc(), file, table, columns)
         }
         _ => Failure::of_change(rt, refusal, file),
     }

@@ -1,10 +1,10 @@
 //! The commands that change a folder of parts: what each brings is put into it as one more part.
 
-use crate::folders::{Basis, Opened, open_folder, open_to_add};
+use crate::folders::{Basis, open_to_add};
 use crate::judged_puts::finish_judged;
 use crate::named_imports::import_named;
 use crate::part_failures::unmade;
-use crate::part_heads::read_heads;
+use crate::part_heads::{PartHeads, read_heads};
 use crate::putting::{make_folder, put_part, put_relying};
 use command_line::{CsvForm, Source};
 use file_commands::{HeldRows, Left};
@@ -17,7 +17,7 @@ use refusal_sentences::{CommandRefusal, is_of_a_text};
 use replica_changes::Command;
 use replica_reports::OpenFile;
 use replica_store::Store;
-use table_model::{BatchName, ColType, Counted, Refusal, RowName, Schema};
+use table_model::{BatchName, ColType, Counted, Refusal, RowName};
 
 /// Makes a folder that has the empty table as its one part.
 pub fn create<R: Host>(
@@ -32,7 +32,9 @@ pub fn create<R: Host>(
     let mut writer = Counted::new(Vec::new(rt.alloc()));
     match replica_changes::create(rt.alloc(), table, columns, &mut writer) {
         Ok(()) => {}
-        Err(Refusal::BadSchema) => return Err(Failure::of_names(rt.alloc(), table, columns)),
+        Err(Refusal::BadSchema) => {
+            return Err(Failure::of_names(rt.alloc(), folder, table, columns));
+        }
         Err(refusal) => return Err(unmade(rt, folder, refusal)),
     }
     let replaced = make_folder(rt, folder, writer.into_inner().as_slice())?;
@@ -54,7 +56,7 @@ pub fn import<R: Host>(
     }
 }
 
-/// The same under names that are drawn, for which only the heads of the parts are read.
+/// Puts the rows of comma-separated values into a folder as one part, under names that are drawn. Only the heads of the parts are read.
 fn import_drawn<R: Host>(
     rt: &R,
     progress: &Progress<'_, R>,
@@ -63,7 +65,7 @@ fn import_drawn<R: Host>(
     form: CsvForm<'_>,
 ) -> Result<Done, Failure> {
     let heads = read_heads(rt, folder)?;
-    let load = load_of(rt, progress, csvs, &heads.schema, form)?;
+    let load = load_of(rt, progress, folder, csvs, &heads.schema, form)?;
     if let Err(refusal) = check_room(heads.batches.as_slice(), load.batches() as u32) {
         return Err(Failure::of_change(rt, CommandRefusal::from(refusal), folder));
     }
@@ -73,21 +75,27 @@ fn import_drawn<R: Host>(
         given: None,
         words: words.as_slice(),
     };
-    put_alone(rt, folder, &heads.schema, command)
+    put_alone(rt, folder, heads, command)
 }
 
 /// Puts the part of a command for which only the heads of the parts are read, if there is something to put.
 fn put_alone<R: Host>(
     rt: &R,
     folder: &str,
-    schema: &Schema,
+    heads: PartHeads,
     command: Command<'_>,
 ) -> Result<Done, Failure> {
+    let PartHeads {
+        schema,
+        permissions,
+        ..
+    } = heads;
     let mut writer = Counted::new(Vec::new(rt.alloc()));
-    match part_alone(rt.alloc(), schema, command, &mut writer) {
+    match part_alone(rt.alloc(), &schema, command, &mut writer) {
         Ok(answer) if !answer.is_changed() => Ok(Done::added(answer, Left::Kept)),
         Ok(answer) => {
-            let replaced = put_part(rt, folder, writer.into_inner().as_slice())?;
+            let bytes = writer.into_inner();
+            let replaced = put_part(rt, folder, permissions, bytes.as_slice())?;
             Ok(Done::added(answer, Left::Changed(replaced)))
         }
         Err(refusal) => Err(unmade(rt, folder, refusal)),
@@ -115,7 +123,7 @@ pub fn delete<R: Host>(
         }
         Err(refusal) if is_of_a_text(refusal) => {
             let schema = Some(held.schema());
-            Err(Failure::of_condition(rt.alloc(), refusal, "", condition, schema))
+            Err(Failure::of_condition(rt.alloc(), refusal, folder, "", condition, schema))
         }
         Err(refusal) => Err(unmade(rt, folder, refusal)),
     }
@@ -130,7 +138,7 @@ pub fn delete_rows<R: Host>(
 ) -> Result<Done, Failure> {
     let heads = read_heads(rt, folder)?;
     let command = Command::DeleteRows { first, last };
-    put_alone(rt, folder, &heads.schema, command)
+    put_alone(rt, folder, heads, command)
 }
 
 /// Puts the deletion of rows by their names into a folder as one part, if a part of the folder holds their batch.
@@ -141,16 +149,17 @@ pub fn delete_held_rows<R: Host>(
     first: RowName,
     last: u16,
 ) -> Result<Done, Failure> {
-    let opened: Opened<OpenFile> = open_folder(rt, progress, folder)?;
+    let (held, basis): (Store, _) = open_to_add(&*rt, &*progress, folder, &Reliance::Nothing)?;
     let mut writer = Counted::new(Vec::new(rt.alloc()));
-    let schema = opened.held.schema();
     let command = Command::DeleteRows { first, last };
-    if let Err(refusal) = part_alone(rt.alloc(), schema, command, &mut writer) {
+    if let Err(refusal) = part_alone(rt.alloc(), held.schema(), command, &mut writer) {
         return Err(unmade(rt, folder, refusal));
     }
-    let is_held = opened.held.store().holds(first.batch);
+    let is_held = held.holds(first.batch);
     let left = if is_held {
-        Left::Changed(put_part(rt, folder, writer.into_inner().as_slice())?)
+        let permissions = basis.system.permissions();
+        let bytes = writer.into_inner();
+        Left::Changed(put_part(rt, folder, permissions, bytes.as_slice())?)
     } else {
         Left::Kept
     };

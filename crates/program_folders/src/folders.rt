@@ -104,7 +104,7 @@ impl Parts {
         Parts::listed_in(rt, folder, &mut system, is_careful)
     }
 
-    /// The same of a folder that is open.
+    /// The parts of a folder that is open, listed under its shared lock, as [`Parts::listed`] finds them.
     pub fn listed_in<R: Host>(
         rt: &R,
         folder: &str,
@@ -207,7 +207,8 @@ pub fn open_folder<H: Opens, R: Host>(
     Ok(Opened { held, parts })
 }
 
-/// The same for a command that may add a part, and that relies so on those that are there.
+/// What all parts of a folder hold, for a command that may add a part, and the parts on which it relies. It says at a terminal how many
+/// parts were begun.
 pub fn open_to_add<'r, H: Opens, R: Host>(
     rt: &'r R,
     progress: &'r Progress<'r, R>,
@@ -230,7 +231,7 @@ pub fn open_to_add<'r, H: Opens, R: Host>(
     Err(busy(rt.alloc(), folder))
 }
 
-/// The same by one look at its parts.
+/// Opens a folder for [`open_to_add`] by one listing. It fails if a part was packed or forgotten meanwhile.
 fn open_once<'r, H: Opens, R: Host>(
     rt: &'r R,
     progress: &'r Progress<'r, R>,

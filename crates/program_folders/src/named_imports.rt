@@ -27,7 +27,7 @@ pub fn import_named<R: Host>(
     form: CsvForm<'_>,
 ) -> Result<Done, Failure> {
     let heads = read_heads(rt, folder)?;
-    let load = load_of(rt, progress, csvs, &heads.schema, form)?;
+    let load = load_of(rt, progress, folder, csvs, &heads.schema, form)?;
     let names = LoadNames {
         first,
         count: load.batches() as u32,
@@ -87,7 +87,7 @@ fn skim_folder<'r, R: Host>(
     Err(busy(rt.alloc(), folder))
 }
 
-/// The same by one look at its parts.
+/// Reads a folder for [`skim_folder`] by one listing. It fails if a part was packed or forgotten meanwhile.
 fn skim_once<'r, R: Host>(
     rt: &'r R,
     progress: &'r Progress<'r, R>,

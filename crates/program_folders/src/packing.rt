@@ -8,7 +8,7 @@ use crate::told_folder::ToldFolder;
 use folder_parts::packed_prefix;
 use folder_protocol::{Found, Looks};
 use patience::Patience;
-use program_changes::say_line;
+use program_changes::{CHANGED, UNCHANGED, say_line};
 use program_failures::Failure;
 use program_inputs::Host;
 use refusal_sentences::CommandRefusal;
@@ -28,7 +28,8 @@ pub fn pack<R: Host>(rt: &R, folder: &str, is_all: bool, is_quiet: bool) -> Resu
     let packed = pack_rounds(rt, folder, is_all)?;
     let parts = Parts::listed(rt, folder, true)?.count();
     let line = format!(in rt.alloc(); "ok parts={parts} packed={packed}\n")?;
-    say_line(rt, line.as_str(), is_quiet)
+    let left = if packed > 0 { CHANGED } else { UNCHANGED };
+    say_line(rt, folder, left, line.as_str(), is_quiet)
 }
 
 /// Removes the temporaries of a folder that no process holds.

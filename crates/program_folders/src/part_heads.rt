@@ -10,7 +10,7 @@ use program_failures::Failure;
 use program_inputs::{Host, Watched, read_front};
 use refusal_sentences::{CommandRefusal, KIND_BYTES};
 use std::alloc::{AllocError, Global};
-use std::fs::File;
+use std::fs::{File, Permissions};
 use table_model::{Counted, Refusal, Schema};
 
 /// What the heads of a folder's parts say.
@@ -19,6 +19,8 @@ pub struct PartHeads {
     pub schema: Schema,
     /// How many batches each part has.
     pub batches: Vec<u32>,
+    /// The permissions that a new part takes.
+    pub permissions: Option<Permissions>,
 }
 
 /// What the heads of a folder's parts say. The smallest part's bytes are compared with its name.
@@ -37,7 +39,7 @@ pub fn read_heads<R: Host>(rt: &R, folder: &str) -> Result<PartHeads, Failure> {
     Err(busy(rt.alloc(), folder))
 }
 
-/// The same by one look at its parts.
+/// Reads the heads for [`read_heads`] by one listing. It fails if a part was packed or forgotten meanwhile.
 fn heads_once<R: Host>(rt: &R, folder: &str, is_careful: bool) -> Result<PartHeads, Unread> {
     let mut system = ToldFolder::open(rt, folder, None)?;
     let parts = Parts::listed_in(rt, folder, &mut system, is_careful)?;
@@ -78,7 +80,11 @@ fn heads_of<R: Host>(
         return Err(Unread::Folder);
     };
     compare(rt, system, at_place(names, smallest.0))?;
-    Ok(PartHeads { schema, batches })
+    Ok(PartHeads {
+        schema,
+        batches,
+        permissions: system.permissions(),
+    })
 }
 
 /// The head of the part of a name, which is read into this buffer, and how many bytes the part has.

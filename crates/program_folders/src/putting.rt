@@ -12,21 +12,28 @@ use program_failures::Failure;
 use program_inputs::Host;
 use refusal_sentences::CommandRefusal;
 use std::alloc::Global;
-use std::fs::{File, Files};
+use std::fs::{File, Files, Permissions};
 use std::io::ErrorKind;
 use std::random::RandomSource;
 
 /// How often a part is put, if the one that was there before is gone when it is compared.
 const TRIES: u32 = 100;
 
-/// Puts these bytes into a folder as a part, unless the folder has it already. Answers how the folder was synced.
-pub fn put_part<R: Host>(rt: &R, folder: &str, bytes: &[u8]) -> Result<Replaced, Failure> {
-    let system = opened(rt, folder)?;
+/// Puts these bytes into a folder as a part, with these permissions if there are some, unless the folder has it already. Answers how the
+/// folder was synced.
+pub fn put_part<R: Host>(
+    rt: &R,
+    folder: &str,
+    permissions: Option<Permissions>,
+    bytes: &[u8],
+) -> Result<Replaced, Failure> {
+    let mut system = opened(rt, folder)?;
+    system.take_permissions(permissions);
     put_relying(rt, folder, system, &[], bytes)
 }
 
-/// The same once the parts of these names, on which it relies, are on the disk. If one of those can't be synced, nothing is put, and
-/// `WriteFault` is the refusal, with its name.
+/// Puts these bytes into a folder as a part, unless the folder has it already, once the parts of the names `relied` are on the disk.
+/// If one of those can't be synced, nothing is put, and the refusal is `WriteFault` with its name. Answers how the folder was synced.
 pub fn put_relying<'r, R: Host>(
     rt: &'r R,
     folder: &str,

@@ -10,6 +10,7 @@ use program_changes::Heads;
 use program_failures::Failure;
 use program_inputs::{Host, Progress};
 use std::alloc::{AllocError, Global};
+use std::fs::Permissions;
 use std::io::{self, ErrorKind};
 use table_model::Refusal;
 
@@ -104,6 +105,11 @@ impl<'r, 'n, R: Host> ToldFolder<'r, 'n, R, SystemFolder<'r, R>> {
     /// How many names the last listing left out, since they are not UTF-8.
     pub fn unreadable(&self) -> usize {
         self.inner.unreadable()
+    }
+
+    /// The permissions that a new part takes, if parts were listed.
+    pub fn permissions(&self) -> Option<Permissions> {
+        self.inner.permissions()
     }
 
     /// The folder itself.

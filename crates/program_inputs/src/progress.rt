@@ -128,7 +128,7 @@ fn shown_name(name: &str) -> &str {
     }
 }
 
-/// What says how far the reading of a file under its lock is.
+/// Reports the progress of a file that is read under its lock.
 #[derive(Drop)]
 pub struct LockedReading<'p, R> {
     progress: &'p Progress<'p, R>,

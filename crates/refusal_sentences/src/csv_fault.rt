@@ -1,17 +1,20 @@
 //! What is wrong with a line of comma-separated values, or with one of its fields.
 
-use crate::quoted::Quoted;
+use crate::quoted::{Printable, Quoted};
 use crate::tables::Names;
-use std::fmt;
+use std::{fmt, str};
 use table_model::{ColType, Schema, VALUE_DIGITS, is_numeral, same_word};
 
-/// The usual separators, and what each is called.
-const SEPARATORS: [(u8, &str); 4] = [
-    (b',', "commas"),
-    (b';', "semicolons"),
-    (b'\t', "tabs"),
-    (b'|', "bars"),
+/// The usual separators, what each is called, and how the option that names it is written in a shell.
+const SEPARATORS: [(u8, &str, &str); 4] = [
+    (b',', "commas", "--separator ','"),
+    (b';', "semicolons", "--separator ';'"),
+    (b'\t', "tabs", "--separator '\\t'"),
+    (b'|', "bars", "--separator '|'"),
 ];
+
+/// What is said of a quote that is open at a line's end.
+const NO_LINE_END: &str = "quotes don't protect a line's end, so write each row in one line";
 
 /// How many fields of a header are named in a sentence at most.
 const NAMED_FIELDS: usize = 64;
@@ -105,14 +108,20 @@ impl<'a> Fields<'a> {
         count
     }
 
-    /// What seems to separate the fields, if it is another byte than it should be.
-    fn likely_separator(&self) -> Option<&'static str> {
-        for (separator, name) in SEPARATORS {
+    /// What seems to separate the fields, if it is another byte than it should be, and the option that says so.
+    fn likely_separator(&self) -> Option<(&'static str, &'static str)> {
+        for (separator, name, option) in SEPARATORS {
             if separator != self.separator && self.count(separator) == self.wanted.count() {
-                return Some(name);
+                return Some((name, option));
             }
         }
         None
+    }
+
+    /// Whether a quote is open at the line's end.
+    fn is_quote_open(&self) -> bool {
+        let quotes = self.line.iter().filter(|byte| **byte == b'"').count();
+        quotes % 2 == 1
     }
 
     /// Whether the header has a field that names this column.
@@ -193,9 +202,10 @@ impl<'a> Fields<'a> {
     /// Writes what to do, if it is known, about fields whose number is wrong.
     fn write_advice<W: fmt::Write>(&self, f: &mut fmt::Formatter<W>) -> fmt::Result {
         match (self.likely_separator(), self.wanted) {
-            (Some(name), _) if self.wanted.count() > 1 => {
-                write!(f, "; {name} seem to separate its fields")
+            (Some((name, option)), _) if self.wanted.count() > 1 => {
+                write!(f, "; {name} seem to separate its fields: say {option}")
             }
+            _ if self.is_quote_open() => write!(f, "; {NO_LINE_END}"),
             _ if self.count_outside_quotes() == self.wanted.count() => f.write_str(
                 "; quotes don't protect a separator: write numbers without it, or choose another one",
             ),
@@ -211,7 +221,9 @@ impl<'a> Fields<'a> {
 impl<'a> fmt::Display for Fields<'a> {
     fn fmt<W: fmt::Write>(&self, f: &mut fmt::Formatter<W>) -> fmt::Result {
         if self.is_header && self.line.is_empty() {
-            return f.write_str("the header is missing: did the command before it fail?");
+            return f.write_str(
+                "this line is empty, and should be the header: did the command before it fail?",
+            );
         }
         let found = self.count(self.separator);
         let wanted = self.wanted;
@@ -281,26 +293,53 @@ pub fn write_fault_of_field<W: fmt::Write>(
         return write!(f, "{field} has more than 30 digits");
     }
     write!(f, "{field} is not a whole number")?;
+    if NULLS.iter().any(|null| same_word(inner, null)) {
+        let word = Printable(str::from_utf8(inner).unwrap_or(""));
+        return write!(f, "; if it is a null, say --null '{word}'");
+    }
     match advice_on_field(inner) {
         Some(advice) => write!(f, ": {advice}"),
-        None if NULLS.iter().any(|null| same_word(inner, null)) => {
-            f.write_str("; if it is a null, say so by --null")
-        }
         None => Ok(()),
     }
 }
 
 /// What to do about a field that is not a number, if it is known.
 fn advice_on_field(field: &[u8]) -> Option<&'static str> {
+    let digits = digits_of(field);
     if field.is_empty() {
-        Some("a null is an empty field without quotes, or NULL")
+        Some("a null is an empty field without quotes, or NULL; if this is one too, say --null ''")
     } else if field.trim_ascii().len() < field.len() && is_whole_number(field.trim_ascii()) {
         Some("a field has no spaces")
     } else if field.first() == Some(&b'+') {
         Some("a number has no plus sign")
+    } else if field.first() == Some(&b'"') {
+        Some(NO_LINE_END)
+    } else if is_fraction(digits) {
+        Some("write it in a smaller unit, as cents for an amount")
+    } else if is_date(digits) {
+        Some("write a day as a number, as 20261130, and a time as seconds")
+    } else if same_word(field, b"TRUE") || same_word(field, b"FALSE") {
+        Some("write 1 for true and 0 for false")
+    } else if field.first().is_some_and(u8::is_ascii_alphabetic) || !field.is_ascii() {
+        Some("write a number for each text")
     } else {
         None
     }
+}
+
+/// Whether digits have one point among them.
+fn is_fraction(digits: &[u8]) -> bool {
+    let points = digits.iter().filter(|byte| **byte == b'.').count();
+    points == 1
+        && digits
+            .iter()
+            .all(|byte| byte.is_ascii_digit() || *byte == b'.')
+}
+
+/// Whether a field begins as a day or a time does: a digit, and a hyphen, a slash or a colon behind it.
+fn is_date(field: &[u8]) -> bool {
+    let is_begun = field.first().is_some_and(u8::is_ascii_digit);
+    is_begun && field.iter().any(|byte| matches!(*byte, b'-' | b'/' | b':'))
 }
 
 /// Writes what is wrong with a field of the header.
@@ -345,7 +384,7 @@ fn is_whole_number(field: &[u8]) -> bool {
     is_numeral(digits, VALUE_DIGITS)
 }
 
-/// Whether a field, of which at most the first 40 bytes are here, is a number of more digits than the grammar has.
+/// Whether a field is a number of more digits than the grammar has.
 fn is_long_number(field: &[u8]) -> bool {
     let digits = digits_of(field);
     digits.len() > VALUE_DIGITS && digits.iter().all(u8::is_ascii_digit)

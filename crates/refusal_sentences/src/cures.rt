@@ -10,7 +10,10 @@ const NO_JOIN: &str = "there are no joins: a query asks one table";
 const NO_CASE: &str = "there is no CASE: ask a query for each case, with its condition in WHERE";
 
 const NO_ORDER: &str =
-    "there is no ORDER BY: rows ascend by the columns of GROUP BY; pipe the answer through sort -n";
+    "there is no ORDER BY: rows ascend by the columns of GROUP BY; pipe the answer through tail -n +2 | sort -t, -k2,2nr (by column 2, largest first)";
+
+const NO_LIMIT: &str =
+    "there is no LIMIT: pipe the answer through head -n 4 (the heading and 3 rows)";
 
 const NO_TABLE_CHANGE: &str =
     "a query changes nothing: lanes dump and lanes import move the rows to a table of other columns";
@@ -27,7 +30,7 @@ const NO_FILTER: &str = "there is no FILTER: ask another query, with the conditi
 
 const NO_SUBQUERY: &str = "there are no subqueries: ask them by themselves";
 
-const NO_TOP: &str = "there is no TOP: pipe the answer through head";
+const NO_TOP: &str = "there is no TOP: pipe the answer through head -n 4 (the heading and 3 rows)";
 
 const NO_INTO: &str = "there is no INTO: redirect the answer into a file";
 
@@ -53,13 +56,13 @@ const WORDS: [Cure; 43] = [
     ),
     (
         b"DESC",
-        "rows always ascend by the columns of GROUP BY: pipe the answer through sort -rn",
+        "rows always ascend by the columns of GROUP BY: pipe the answer through tail -n +2 | sort -t, -k1,1nr (by column 1, largest first)",
     ),
-    (b"LIMIT", "there is no LIMIT: pipe the answer through head"),
-    (b"FETCH", "there is no FETCH: pipe the answer through head"),
+    (b"LIMIT", NO_LIMIT),
+    (b"FETCH", NO_LIMIT),
     (
         b"OFFSET",
-        "there is no OFFSET: pipe the answer through tail",
+        "there is no OFFSET: pipe the answer through tail -n +5 (without the heading and 3 rows)",
     ),
     (b"TOP", NO_TOP),
     (b"JOIN", NO_JOIN),

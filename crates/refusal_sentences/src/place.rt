@@ -154,7 +154,7 @@ impl<'a> Place<'a> {
                 "a column is NULL or NOT NULL: IS TRUE, IS FALSE and IS UNKNOWN come after a condition",
             ),
             false if is_truth && possible.is_operand() => Some(
-                "values are whole numbers: TRUE, FALSE and UNKNOWN come only after IS",
+                "TRUE, FALSE and UNKNOWN come only after IS: 1 = 1 is true of each row",
             ),
             false if self.is(b"NOT") && possible.is_condition() => Some(
                 "NOT is there twice: leave both out, or write NOT (NOT ..)",

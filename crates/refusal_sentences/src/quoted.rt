@@ -5,8 +5,8 @@ use std::{fmt, str};
 /// How many bytes of an input are quoted at most.
 const QUOTED_BYTES: usize = 40;
 
-/// The first 40 bytes of an input in double quotes. A character that can be seen is written as it is, each other one as
-/// [`write_letter`] does, and a byte that is of no character of UTF-8 as `\xNN`.
+/// The first 40 bytes of an input in double quotes, and two points behind them if it has more. A character that can be seen is written
+/// as it is, each other one as [`write_letter`] does, and a byte that is of no character of UTF-8 as `\xNN`.
 #[derive(Clone, Copy, Debug)]
 pub struct Quoted<'a>(pub &'a [u8]);
 
@@ -17,14 +17,15 @@ impl<'a> fmt::Display for Quoted<'a> {
             write_letters(chunk.valid(), f)?;
             write_bytes(chunk.invalid(), f)?;
         }
-        f.write_str("\"")
+        let is_cut = self.0.len() > QUOTED_BYTES;
+        f.write_str(if is_cut { "\".." } else { "\"" })
     }
 }
 
 /// The first 40 bytes of an input, without a character that they cut.
 fn whole_letters(input: &[u8]) -> &[u8] {
     let (quoted, _) = input.split_at(input.len().min(QUOTED_BYTES));
-    if quoted.len() < QUOTED_BYTES {
+    if input.len() <= QUOTED_BYTES {
         return quoted;
     }
     match str::from_utf8(quoted) {

@@ -20,8 +20,6 @@ pub struct RefusedLine<'a> {
     pub wanted: Wanted<'a>,
     /// Whether it should be the header.
     pub is_header: bool,
-    /// At most the first 40 bytes of the field at fault.
-    pub field: &'a [u8],
     /// The place in the schema, from 0, of the column of that field. A field of the header has none.
     pub column: Option<usize>,
 }
@@ -46,14 +44,22 @@ impl<'a> RefusedLine<'a> {
                 Knowledge::Field {
                     column: found.name(),
                     column_type: found.column_type(),
-                    text: self.field,
+                    text: self.field(field),
                     is_heading: is_heading(self.line, self.separator, schema),
                 }
             }
             _ => Knowledge::Heading {
-                text: self.field,
+                text: self.field(field),
                 schema,
             },
         }
+    }
+
+    /// The field of this number, from 1; empty if the line does not have it.
+    fn field(&self, number: u64) -> &'a [u8] {
+        let separator = self.separator;
+        let index = usize::try_from(number.saturating_sub(1)).unwrap_or(usize::MAX);
+        let mut fields = self.line.split(|byte| *byte == separator);
+        fields.nth(index).unwrap_or(b"")
     }
 }

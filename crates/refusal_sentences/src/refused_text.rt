@@ -19,7 +19,7 @@ pub fn sentence_of_text(
     format!(in alloc; "{sentence}")
 }
 
-/// The same without the place.
+/// The sentence of a refused text, without its place and without the input.
 pub fn words_of_text(
     alloc: Global,
     refusal: Refusal,

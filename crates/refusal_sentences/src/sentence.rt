@@ -31,15 +31,14 @@ pub enum Knowledge<'a> {
     Line(u64),
     /// A line that has the wrong number of fields.
     Fields(Fields<'a>),
-    /// A field of a row: its column's name and type, at most the first 40 bytes of its text, and whether its line names columns, as a
-    /// heading does.
+    /// A field of a row: its column's name and type, its text, and whether its line names columns, as a heading does.
     Field {
         column: &'a str,
         column_type: ColType,
         text: &'a [u8],
         is_heading: bool,
     },
-    /// A field that should name a column of a table, as far as that.
+    /// A field that should name a column of a table.
     Heading {
         text: &'a [u8],
         schema: &'a Schema,

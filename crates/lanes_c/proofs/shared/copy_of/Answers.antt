@@ -7,7 +7,7 @@ use Rattle.table_model.specs.declared.refusal.Refusal.{Refusal}
 use Rattle.replica_store.specs.Replica.{Replica}
 use Rattle.replica_store.specs.Segments.{StoreForm}
 use Rattle.lanes_c.proofs.TableChanging.{copied, lacks, offer_lacks, opened_copy}
-use Rattle.lanes_c.proofs.table_changes.copy_of.Goals as goal
+use Rattle.lanes_c.proofs.shared.copy_of.Goals as goal
 
 pub returns-in_err-nothing : goal.returns-in_err-nothing
 returns-in_err-nothing c =
