@@ -55,12 +55,23 @@ static void make_site(size_t site, bytes *file, bytes *summary) {
     expect(lanes_summary(file->at, file->length, summary->at, LIKELY, &summary->length, &place), place);
 }
 
+/* Gives a table a key that nobody knows, drawn once, so nobody can choose rows that make a query slow. */
+static void give_key(lanes_table *table) {
+    static uint64_t key[2];
+    static bool is_drawn = false;
+    FILE *random = is_drawn ? NULL : fopen("/dev/urandom", "rb");
+    is_drawn = is_drawn || (random && fread(key, sizeof *key, 2, random) == 2);
+    if (random) fclose(random);
+    if (!is_drawn || lanes_hash_key(table, key[0], key[1])) exit(2);
+}
+
 /* What a site's file gives to the answer. If the likely room is too small, the call is made again with as much as it told. */
 static bytes partial_of(bytes file) {
     lanes_table table = LANES_CLOSED;
     lanes_place place;
     bytes partial = {NULL, LIKELY};
     expect(lanes_open(file.at, file.length, &table, &place), place);
+    give_key(&table);
     for (size_t room = 0; partial.length > room;) {
         free(partial.at);
         room = partial.length;

@@ -17,9 +17,8 @@ static const uint8_t *text_of(const char *text) { return (const uint8_t *)text; 
 /* Tells the name of a refusal and its sentence. */
 static void tell(uint8_t number, lanes_place place) {
     uint8_t name[32], sentence[256];
-    size_t name_length = lanes_refusal(number, name, sizeof name), length = lanes_sentence(number, &place, sentence, sizeof sentence);
+    size_t name_length = lanes_refusal(number, name, sizeof name), length = lanes_file_sentence(number, &place, sentence, sizeof sentence);
     fprintf(stderr, "refused %.*s: %.*s\n", (int)name_length, (const char *)name, (int)length, (const char *)sentence);
-    if (number == LANES_SYSTEM) fprintf(stderr, "%s\n", strerror((int)place.first));
 }
 
 /* Draws random numbers, of which the library draws a name. */

@@ -28,6 +28,13 @@ static void *room_for(size_t size) {
     return at;
 }
 
+/* Draws random numbers. */
+static void draw(uint64_t *drawn, size_t count) {
+    FILE *random = fopen("/dev/urandom", "rb");
+    if (!random || fread(drawn, sizeof *drawn, count, random) != count) exit(2);
+    fclose(random);
+}
+
 /* The words of the folder's table, once they are known. */
 static uint8_t words[4096];
 static size_t words_length;
@@ -102,9 +109,7 @@ static bytes loaded(bytes empty, const char *csv, uint32_t number) {
     lanes_place place;
     uint64_t drawn[4];
     bytes load = {NULL, 0};
-    FILE *random = fopen("/dev/urandom", "rb");
-    if (!random || fread(drawn, sizeof *drawn, 4, random) != 4) exit(2);
-    fclose(random);
+    draw(drawn, 4);
     for (size_t room = 0; !load.at || load.length > room;) {
         free(load.at);
         room = load.length;
@@ -142,14 +147,29 @@ static void load(const char *folder, uint32_t number, const char *csv) {
     exit(2);
 }
 
+/* The answer of a query. If the likely room is too small, it is asked again with as much as it told. */
+static bytes answered(lanes_table *table, const char *sql) {
+    lanes_place place;
+    bytes answer = {NULL, 1 << 16};
+    for (size_t room = 0; answer.length > room;) {
+        free(answer.at);
+        room = answer.length;
+        answer.at = room_for(room);
+        expect_of(lanes_ask(table, (const uint8_t *)sql, strlen(sql), answer.at, room, &answer.length, &place), place, LANES_OF_QUERY, sql, strlen(sql));
+    }
+    return answer;
+}
+
+/* Prints the answer of a query. The table has a key that nobody knows, so nobody can choose rows that make the query slow. */
 static void query(const char *folder, const char *sql) {
     lanes_part_names names;
-    lanes_place place;
-    static uint8_t answer[1 << 20];
-    size_t length;
+    uint64_t key[2];
     lanes_table table = opened(folder, &names);
-    expect_of(lanes_ask(&table, (const uint8_t *)sql, strlen(sql), answer, sizeof answer, &length, &place), place, LANES_OF_QUERY, sql, strlen(sql));
-    fwrite(answer, 1, length < sizeof answer ? length : sizeof answer, stdout);
+    draw(key, 2);
+    lanes_hash_key(&table, key[0], key[1]);
+    bytes answer = answered(&table, sql);
+    fwrite(answer.at, 1, answer.length, stdout);
+    free(answer.at);
     lanes_close(&table);
     free(names.names);
 }

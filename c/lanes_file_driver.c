@@ -25,6 +25,12 @@ static void close_one(int *opened) {
     *opened = -1;
 }
 
+/* Closes the lock. A child that was forked meanwhile has it open too, and would keep a lock that is only closed. */
+static void unlock(lanes_held *held) {
+    if (held->lock >= 0) flock(held->lock, LOCK_UN);
+    close_one(&held->lock);
+}
+
 /* A refusal by the system, for the reason of an errno. */
 static uint8_t refused(int reason, lanes_place *place) {
     if (reason == ENOMEM) return LANES_MEMORY;
@@ -106,7 +112,7 @@ static int wait_for_lock(lanes_held *held) {
         enum had had = try_lock(held);
         int reason = errno;
         if (had == HAD) return 0;
-        close_one(&held->lock);
+        unlock(held);
         if (had != NOT_YET) return had == UNMADE ? reason : EEXIST;
         clock_gettime(CLOCK_MONOTONIC, &now);
         if (now.tv_sec - begun.tv_sec - (now.tv_nsec < begun.tv_nsec) >= LONGEST_WAIT) return -1;
@@ -151,11 +157,19 @@ static int read_file(lanes_held *held) {
     return reason;
 }
 
+/* Sees that the held file may be written, if there is one: the folder may allow its replacement all the same. Answers 0, or an errno. */
+static int try_writing(lanes_held *held) {
+    int file = openat(held->folder, held->name, O_WRONLY | O_NONBLOCK | O_NOCTTY | O_CLOEXEC);
+    int reason = file < 0 && errno != ENOENT ? errno : 0;
+    close_one(&file);
+    return reason;
+}
+
 /* Gives the lock back, if this process has it. It is removed unless it has become the file, or another process has removed it. */
 static void give_lock_back(lanes_held *held) {
     if (held->lock < 0) return;
     if (is_own(held)) unlinkat(held->folder, held->lock_name, 0);
-    close_one(&held->lock);
+    unlock(held);
 }
 
 /* Takes the lock, with the mode of the file, and reads the file. Answers 0, an errno, or -1 if others have the lock. */
@@ -165,7 +179,18 @@ static int hold(const char *path, lanes_held *held) {
     free(whole);
     if (!reason) reason = wait_for_lock(held);
     if (!reason) reason = take_mode(held);
+    if (!reason) reason = try_writing(held);
     return reason ? reason : read_file(held);
+}
+
+size_t lanes_file_sentence(uint8_t number, const lanes_place *place, uint8_t *sentence, size_t room) {
+    char said[160];
+    if (number == LANES_BUSY) snprintf(said, sizeof said, "another process has had the file for ten seconds");
+    else if (number == LANES_SYSTEM) snprintf(said, sizeof said, "the system refused a call on the file: %s", strerror((int)place->first));
+    else return lanes_sentence(number, place, sentence, room);
+    size_t length = strlen(said);
+    if (length <= room) memcpy(sentence, said, length);
+    return length;
 }
 
 uint8_t lanes_file_hold(const char *path, lanes_held *held, lanes_place *place) {

@@ -39,7 +39,8 @@ typedef struct lanes_held {
     int lock;
 } lanes_held;
 
-/* A handle that holds no file: `lanes_held held = LANES_NOT_HELD;`. A handle that is static and has no initializer holds none. */
+/* A handle that holds no file: `lanes_held held = LANES_NOT_HELD;`. A handle that is static and has no initializer holds none, and
+ * in C needs none. */
 #ifdef __cplusplus
 #define LANES_NOT_HELD (lanes_held{nullptr, 0, false, nullptr, nullptr, 0, 0})
 #else
@@ -51,7 +52,8 @@ typedef struct lanes_held {
  *
  * Refused: LANES_BUSY when another process has had the lock for ten seconds; LANES_MEMORY; LANES_SYSTEM with the system's number: ENOENT when
  * there is no such folder, or the path is a link that leads nowhere; EINVAL when what is there is no regular file; EEXIST when what has the
- * lock's name is no lock that can be taken. Then no file is held. What the handle held before is let go in each case. */
+ * lock's name is no lock that can be taken; EACCES or EROFS, for one, when the file may not be opened for writing. Then no file is held. What the
+ * handle held before is let go in each case. */
 uint8_t lanes_file_hold(const char *path, lanes_held *held, lanes_place *place);
 
 /* Puts bytes in the place of a held file, and gives the lock back. The file's mode is kept. If it has these bytes already, it is left as it is,
@@ -67,6 +69,10 @@ uint8_t lanes_file_replace(lanes_held *held, const uint8_t *bytes, size_t length
  *
  * Refused, in this order: what lanes_file refuses, and then the file is still held; what lanes_file_replace refuses. */
 uint8_t lanes_file_put(lanes_held *held, lanes_table *table, uint64_t *came, lanes_place *place);
+
+/* The sentence of a refusal by the calls above, as lanes_sentence: of LANES_BUSY and LANES_SYSTEM it speaks of the file, and of LANES_SYSTEM it has
+ * the system's reason. */
+size_t lanes_file_sentence(uint8_t number, const lanes_place *place, uint8_t *sentence, size_t room);
 
 /* Gives the lock back if it is still had, and frees the bytes. A file that was not replaced is as it was. Letting go of no file does nothing.
  * Each file that was held is to be let go, also after it was replaced. */

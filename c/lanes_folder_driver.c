@@ -28,6 +28,7 @@ typedef struct {
     uint8_t *found; /* what a read found */
     size_t found_length;
     lanes_part_names listed;
+    int has_replaced; /* whether parts were removed, as by a pack */
     lanes_turn *turn;
 } driver;
 
@@ -91,10 +92,60 @@ static void let_go(int *opened) {
     *opened = -1;
 }
 
-/* Makes the temporary, and takes its lock, so that no sweep removes it. */
-static told make(driver *d) {
+/* Closes what may be locked. A child that was forked meanwhile has it open too, and would keep a lock that is only closed. */
+static void unlock(int *opened) {
+    if (*opened >= 0) flock(*opened, LOCK_UN);
+    let_go(opened);
+}
+
+static int is_part_name(const char *name) { return strlen(name) == LANES_PART_NAME - 1 && strspn(name, "0123456789abcdef") == 32 && !strcmp(name + 32, ".lanes"); }
+
+/* Opens the folder to list it; null tells errno. */
+static DIR *open_listing(const driver *d) {
+    int again = openat(d->folder, ".", O_RDONLY | O_DIRECTORY | O_CLOEXEC);
+    DIR *listing = again < 0 ? NULL : fdopendir(again);
+    if (!listing && again >= 0) {
+        int error = errno;
+        close(again);
+        errno = error;
+    }
+    return listing;
+}
+
+/* Finds the mode of the part of least name; 0 if there is no part. Answers 0, or an errno. */
+static int find_mode(const driver *d, mode_t *mode) {
+    lanes_part_named least = "";
+    struct dirent *entry;
+    struct stat found;
+    DIR *listing = open_listing(d);
+    *mode = 0;
+    if (!listing) return errno;
+    for (errno = 0; (entry = readdir(listing)); errno = 0) {
+        if (!is_part_name(entry->d_name) || (*least && strcmp(entry->d_name, least) > 0)) continue;
+        if (fstatat(d->folder, entry->d_name, &found, 0) || !S_ISREG(found.st_mode)) continue;
+        memcpy(least, entry->d_name, sizeof least);
+        *mode = found.st_mode & 07777;
+    }
+    int error = errno;
+    closedir(listing);
+    return error;
+}
+
+/* Gives the temporary the mode of the part of least name, whatever the process's umask: so who reads the parts that are there reads the new one too.
+ * In a folder without parts the mode stays that of the umask. Answers 0, or an errno. */
+static int take_mode(const driver *d) {
+    struct stat made;
+    mode_t mode;
+    int error = find_mode(d, &mode);
+    if (error || !mode) return error;
+    if (fstat(d->file, &made)) return errno;
+    return (made.st_mode & 07777) != mode && fchmod(d->file, mode) ? errno : 0;
+}
+
+/* Tries once to make the temporary, and to take its lock, so that no sweep removes it. If a sweep came first, the fault is EEXIST. */
+static told try_make(driver *d) {
     struct stat opened, named;
-    let_go(&d->file);
+    unlock(&d->file);
     d->file = openat(d->folder, d->names, O_WRONLY | O_CREAT | O_EXCL | O_CLOEXEC, 0666);
     if (d->file < 0) return failed();
     if (strlen(d->names) < sizeof d->temporary) memcpy(d->temporary, d->names, strlen(d->names) + 1);
@@ -106,8 +157,18 @@ static told make(driver *d) {
         if (errno != ENOENT) return failed();
         is_swept = 1;
     }
-    if (is_swept || opened.st_ino != named.st_ino) return told_as(LANES_FAILED, EEXIST);
-    return told_as(LANES_DONE, 0);
+    return is_swept || opened.st_ino != named.st_ino ? told_as(LANES_FAILED, EEXIST) : told_as(LANES_DONE, 0);
+}
+
+/* Makes the temporary, anew if a sweep came before its lock. */
+static told make(driver *d) {
+    told came = try_make(d);
+    for (int tried = 0; came.answer == LANES_FAILED && came.number == EEXIST && tried < LONGEST_WAIT; tried++) {
+        usleep(1000);
+        came = try_make(d);
+    }
+    int error = came.answer == LANES_DONE ? take_mode(d) : 0;
+    return error ? told_as(LANES_FAILED, (uint64_t)error) : came;
 }
 
 static told write_some(driver *d, uint64_t from) {
@@ -130,6 +191,7 @@ static told link_names(driver *d) {
 static told remove_name(driver *d) {
     told came = done_if(!unlinkat(d->folder, d->names, 0) || errno == ENOENT);
     if (!strcmp(d->names, d->temporary)) d->temporary[0] = 0;
+    else d->has_replaced = 1;
     return came;
 }
 
@@ -156,8 +218,6 @@ static told take_lock(driver *d, int kind) {
     return told_as(LANES_DONE, 0);
 }
 
-static int is_part_name(const char *name) { return strlen(name) == LANES_PART_NAME - 1 && strspn(name, "0123456789abcdef") == 32 && !strcmp(name + 32, ".lanes"); }
-
 static int by_name(const void *one, const void *other) { return strcmp(*(const lanes_part_named *)one, *(const lanes_part_named *)other); }
 
 /* Adds the names of one listing. */
@@ -180,13 +240,11 @@ static int add_names(driver *d, DIR *open) {
 /* Tells the names of two listings, in order and each once. */
 static told list(driver *d) {
     lanes_place place;
-    int again = openat(d->folder, ".", O_RDONLY | O_DIRECTORY | O_CLOEXEC);
-    DIR *open = again < 0 ? NULL : fdopendir(again);
+    DIR *open = open_listing(d);
     d->listed.count = 0;
     int is_done = open && add_names(d, open) && add_names(d, open);
     told fault = failed();
     if (open) closedir(open);
-    else let_go(&again);
     if (!is_done) return fault;
     size_t kept = 0;
     if (d->listed.count) qsort(d->listed.names, d->listed.count, sizeof *d->listed.names, by_name);
@@ -232,7 +290,7 @@ static told make_call(driver *d, lanes_call call) {
     case LANES_CALL_LOCK_SHARED: return take_lock(d, LOCK_SH);
     case LANES_CALL_LIST: return list(d);
     case LANES_CALL_READ: return read_file(d);
-    default: let_go(&d->lock); return told_as(LANES_DONE, 0);
+    default: unlock(&d->lock); return told_as(LANES_DONE, 0);
     }
 }
 
@@ -265,9 +323,35 @@ static uint8_t drive(driver *d, uint64_t *came, lanes_place *place) {
 
 /* The system's reason why a call failed, as a refusal. */
 static uint8_t refused_by_system(uint64_t reason, lanes_place *place) {
-    place->first = reason;
+    place->first = reason == ENOMEM ? 0 : reason;
     place->second = 0;
-    return LANES_SYSTEM;
+    return reason == ENOMEM ? LANES_MEMORY : LANES_SYSTEM;
+}
+
+/* Sweeping. */
+
+static int is_temporary_name(const char *name) { return strlen(name) == 22 && !strncmp(name, ".part-", 6) && strspn(name + 6, "0123456789abcdef") == 16; }
+
+/* Removes a temporary, if its lock is to be had and it still has its name: what has it was killed. */
+static void sweep_one(const driver *d, const char *name) {
+    struct stat opened, named;
+    if (fstatat(d->folder, name, &named, AT_SYMLINK_NOFOLLOW) || !S_ISREG(named.st_mode)) return;
+    int file = openat(d->folder, name, O_RDONLY | O_NOFOLLOW | O_NONBLOCK | O_CLOEXEC);
+    int is_had = file >= 0 && !flock(file, LOCK_EX | LOCK_NB) && !fstat(file, &opened) && !fstatat(d->folder, name, &named, AT_SYMLINK_NOFOLLOW);
+    if (is_had && opened.st_ino == named.st_ino && opened.st_dev == named.st_dev) unlinkat(d->folder, name, 0);
+    unlock(&file);
+}
+
+/* Removes the temporaries that no process has. Answers 0, or an errno. */
+static int sweep(const driver *d) {
+    struct dirent *entry;
+    DIR *listing = open_listing(d);
+    if (!listing) return errno;
+    for (errno = 0; (entry = readdir(listing)); errno = 0)
+        if (is_temporary_name(entry->d_name)) sweep_one(d, entry->d_name);
+    int error = errno;
+    closedir(listing);
+    return error;
 }
 
 /* Opens the folder of a path, which is all that is open at first. */
@@ -289,6 +373,13 @@ uint8_t lanes_folder_draw(lanes_temporary name, lanes_place *place) {
     return 0;
 }
 
+uint8_t lanes_folder_sweep(const char *path, lanes_place *place) {
+    driver d = driver_in(path);
+    int error = d.folder < 0 ? errno : sweep(&d);
+    let_go(&d.folder);
+    return error ? refused_by_system((uint64_t)error, place) : 0;
+}
+
 uint8_t lanes_folder_drive(const char *path, lanes_turn *turn, const uint8_t *part, size_t part_length, lanes_part_names *listed, uint64_t *came,
                            lanes_place *place) {
     driver d = driver_in(path);
@@ -296,17 +387,20 @@ uint8_t lanes_folder_drive(const char *path, lanes_turn *turn, const uint8_t *pa
     d.part_length = part_length;
     d.turn = turn;
     *came = 0;
+    if (listed) *listed = d.listed;
     uint8_t number = d.folder < 0 ? refused_by_system((uint64_t)errno, place) : drive(&d, came, place);
+    if (number == LANES_SYSTEM) number = refused_by_system(place->first, place);
     lanes_folder_end(turn);
     if (d.temporary[0]) unlinkat(d.folder, d.temporary, 0);
+    if (d.has_replaced) sweep(&d);
     if (listed && !number) {
         *listed = d.listed;
         d.listed.names = NULL;
     }
     free(d.listed.names);
     free(d.found);
-    let_go(&d.file);
-    let_go(&d.lock);
+    unlock(&d.file);
+    unlock(&d.lock);
     let_go(&d.folder);
     return number;
 }
@@ -320,9 +414,11 @@ static uint8_t give_names(const lanes_part_names *names, uint8_t (*add)(const ui
 
 uint8_t lanes_folder_follow_relying(const char *path, uint8_t command, const uint8_t *part, size_t part_length, const lanes_part_names *about,
                                     const lanes_part_names *relied, lanes_part_names *listed, uint64_t *came, lanes_place *place) {
+    static const lanes_part_names none = {NULL, 0};
     lanes_turn turn = LANES_NO_TURN;
     lanes_temporary temporary;
     *came = 0;
+    if (listed) *listed = none;
     uint8_t number = lanes_folder_draw(temporary, place);
     if (!number) number = lanes_folder_begin(command, (const uint8_t *)temporary, strlen(temporary), part, part_length, &turn, place);
     if (!number) number = give_names(about, lanes_folder_name, &turn, place);

@@ -27,9 +27,13 @@ typedef char lanes_temporary[32];
 uint8_t lanes_folder_draw(lanes_temporary name, lanes_place *place);
 
 /* Follows a turn that was begun, as by lanes_parts_pack, in the folder of a path, and ends it. `part` are the bytes of its part, as
- * lanes_folder_part gives them. Answers as lanes_folder_follow. */
+ * lanes_folder_part gives them. Once it has removed parts, as a pack does, it sweeps the folder. Answers as lanes_folder_follow. */
 uint8_t lanes_folder_drive(const char *path, lanes_turn *turn, const uint8_t *part, size_t part_length, lanes_part_names *listed, uint64_t *came,
                            lanes_place *place);
+
+/* Removes what killed processes left in the folder of a path: each temporary that no process has. Answers 0, or the number of a refusal, with its
+ * place. */
+uint8_t lanes_folder_sweep(const char *path, lanes_place *place);
 
 /* Reads the parts of these names in the folder of a path, and takes them into a handle that is closed. *is_gone is 1 if one of them is gone
  * meanwhile, so that they are to be listed anew; else it is 0. *at is the part that was refused or is gone, or the number of names if the folder can't be opened. Answers 0, or the number of a refusal,
@@ -44,9 +48,13 @@ uint8_t lanes_folder_read(const char *path, lanes_parts *parts, lanes_part_names
 
 /* Follows a command of lanes.h in the folder of a path. `about` are the parts that are replaced, removed or kept, or that were looked at; it may
  * be null, for none.
- * `listed` is given the names that a listing gave, and may be null; free() frees them.
+ * `listed` is given the names that a listing gave, or none when the command is refused, and may be null; free() frees them.
  *
- * Answers 0, and in *came what the command has come to, as LANES_ON_DISK; or the number of a refusal, with its place. */
+ * A part is put with the mode of the part of least name that is there; in a folder without parts the mode goes by the process's umask. If a sweep
+ * took its temporary, it is made anew.
+ *
+ * Answers 0, and in *came what the command has come to, as LANES_ON_DISK; or the number of a refusal, with its place: LANES_MEMORY, also if the
+ * system has no memory; LANES_SYSTEM with the system's number; and what lanes_folder_begin and lanes_folder_next refuse. */
 uint8_t lanes_folder_follow(const char *path, uint8_t command, const uint8_t *part, size_t part_length, const lanes_part_names *about,
                             lanes_part_names *listed, uint64_t *came, lanes_place *place);
 

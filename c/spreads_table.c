@@ -49,6 +49,16 @@ static void open_table(lanes_table *table) {
         expect(lanes_table_import(table, text_of(ROWS[batch]), strlen(ROWS[batch]), false, 1, batch + 1, &no_words, 0, &place), place);
 }
 
+/* Gives a table a key that nobody knows, drawn once, so nobody can choose rows that make a query slow. */
+static void give_key(lanes_table *table) {
+    static uint64_t key[2];
+    static bool is_drawn = false;
+    FILE *random = is_drawn ? NULL : fopen("/dev/urandom", "rb");
+    is_drawn = is_drawn || (random && fread(key, sizeof *key, 2, random) == 2);
+    if (random) fclose(random);
+    if (!is_drawn || lanes_hash_key(table, key[0], key[1])) exit(2);
+}
+
 /* Spreads a table, and opens each share. A program would write each of these files on a machine of its own. */
 static void open_shares(lanes_table *table, lanes_table *shares) {
     uint8_t files[SHARES * LIKELY];
@@ -58,6 +68,7 @@ static void open_shares(lanes_table *table, lanes_table *shares) {
     fits(length, sizeof files);
     for (size_t share = 0; share < SHARES; begin = ends[share++]) {
         expect(lanes_open(files + begin, ends[share] - begin, &shares[share], &place), place);
+        give_key(&shares[share]);
         printf("share %u: %u batches\n", (unsigned)share, (unsigned)lanes_batches(&shares[share]));
     }
 }

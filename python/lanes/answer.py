@@ -3,16 +3,14 @@
 from __future__ import annotations
 
 import functools
+import operator
 from decimal import Decimal
 from typing import TYPE_CHECKING, Any, ClassVar, Dict, Iterable, Iterator, List, Optional, Sequence, Tuple, Type, Union, overload
 
-from . import answer_columns
+from . import answer_columns, arguments, calls
 from .answer_columns import AnswerColumn, Value
+from .columns import ColumnData
 from .streams import ArrowStream
-
-if TYPE_CHECKING:
-    from . import calls
-    from .columns import ColumnData
 
 __all__ = ["Answer", "Row", "Value"]
 
@@ -24,7 +22,7 @@ _LINE = 120
 
 
 class Row(Tuple[Value, ...]):
-    """A row: a tuple of a field for each heading.
+    """A row: a tuple of a field for each heading. A field whose heading is a name is an attribute, too: `row.SITE`.
 
     `_fields` are the headings, as of a `collections.namedtuple`. So a frame of pandas that is made of rows has them: `pandas.DataFrame(answer)`.
     """
@@ -42,14 +40,15 @@ class Row(Tuple[Value, ...]):
 
 
 @functools.lru_cache(maxsize=256)
-def _kind(headings: Tuple[str, ...]) -> Type[Row]:
+def row_kind(headings: Tuple[str, ...]) -> Type[Row]:
     """The class of rows under these headings."""
-    return type("Row", (Row,), {"__slots__": (), "__module__": __name__, "_fields": headings})
+    named: Dict[str, Any] = {heading: property(operator.itemgetter(at)) for at, heading in enumerate(headings) if heading.isidentifier()}
+    return type("Row", (Row,), {"__slots__": (), "__module__": __name__, "_fields": headings, **named})
 
 
 def _row(headings: Tuple[str, ...], fields: Tuple[Value, ...]) -> Row:
     """A row under these headings."""
-    return _kind(headings)(fields)
+    return row_kind(headings)(fields)
 
 
 class Answer(Sequence[Row]):
@@ -58,16 +57,17 @@ class Answer(Sequence[Row]):
     A whole number is an int, a mean a `decimal.Decimal` of six decimals, and a null None. The rows are made when they are asked for the first
     time. `to_pandas`, `to_numpy` and Arrow's stream are made of columns, and not of rows.
 
-    An answer never changes; `list(answer)` is a list of its rows. A part of it, as `answer[:3]`, is an answer. Two answers are equal if they
-    have the same headings and rows; a list is equal that has the same rows.
+    An answer never changes; `list(answer)` is a list of its rows. A part of it, as `answer[:3]`, is an answer, and `answer["HITS"]` is a column.
+    Two answers are equal if they have the same headings and rows; a list is equal that has the same rows.
     """
 
     def __init__(self, headings: list[str], rows: Iterable[Tuple[Value, ...]], sql: str = "") -> None:
         #: The headings, one for each field of a row, as the query has them.
         self.headings: list[str] = headings
-        self._rows: Optional[List[Row]] = list(map(_kind(tuple(headings)), rows))
+        self._rows: Optional[List[Row]] = list(map(row_kind(tuple(headings)), rows))
         self._columns: Optional[List[AnswerColumn]] = None
         self._sql = sql
+        self._fetched = 0
 
     @classmethod
     def of_columns(cls, columns: List[AnswerColumn], sql: str = "") -> Answer:
@@ -92,7 +92,7 @@ class Answer(Sequence[Row]):
     def _made(self) -> List[Row]:
         """The rows."""
         if self._rows is None:
-            self._rows = list(map(_kind(tuple(self.headings)), zip(*(column.values() for column in self._held()))))
+            self._rows = list(map(row_kind(tuple(self.headings)), zip(*(column.values() for column in self._held()))))
         return self._rows
 
     def _held(self) -> List[AnswerColumn]:
@@ -118,13 +118,41 @@ class Answer(Sequence[Row]):
     @overload
     def __getitem__(self, at: slice) -> Answer: ...
 
-    def __getitem__(self, at: Union[int, slice]) -> Union[Row, Answer]:
+    @overload
+    def __getitem__(self, at: str) -> List[Value]: ...
+
+    def __getitem__(self, at: Union[int, slice, str]) -> Union[Row, Answer, List[Value]]:
+        if isinstance(at, str):
+            return self._column(at)
         if not isinstance(at, slice):
             return self._made()[at]
         first, last, step = at.indices(len(self))
         if self._rows is None and step == 1:
             return type(self).of_columns([column.cut(first, max(first, last)) for column in self._held()], self._sql)
         return type(self)(self.headings, self._made()[at], self._sql)
+
+    def _column(self, heading: str) -> List[Value]:
+        """The fields under a heading. Of headings that are the same the last one is meant.
+
+        Raises:
+            KeyError: there is no such heading.
+        """
+        columns, name = self.columns(), arguments.column_of(heading)
+        if name not in columns:
+            raise KeyError(f"there is no column {heading!r}: the answer has {', '.join(self.headings)}")
+        return columns[name]
+
+    def fetchone(self) -> Optional[Row]:
+        """The next row that was not fetched yet, or None at the end."""
+        some = self._made()[self._fetched : self._fetched + 1]
+        self._fetched += len(some)
+        return some[0] if some else None
+
+    def fetchall(self) -> List[Row]:
+        """All rows that were not fetched yet."""
+        some = self._made()[self._fetched :]
+        self._fetched += len(some)
+        return some
 
     def __eq__(self, other: object) -> bool:
         if isinstance(other, Answer):
@@ -151,6 +179,10 @@ class Answer(Sequence[Row]):
         """A frame of pandas under the same headings: whole numbers as Int64, or as Python's own if one has more than 64 bits; means as
         Float64, also if all are null, which is no longer exact."""
         return answer_columns.frame(self._held())
+
+    def df(self) -> Any:
+        """The frame of `to_pandas`."""
+        return self.to_pandas()
 
     if TYPE_CHECKING:
 

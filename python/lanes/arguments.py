@@ -2,6 +2,7 @@
 
 from __future__ import annotations
 
+import errno
 import operator
 import os
 from typing import Any, Iterable, Type, TypeVar
@@ -63,6 +64,22 @@ def path_of(name: str, given: Any) -> str:
     return path
 
 
+def file_of(name: str, given: Any) -> str:
+    """The path of a file that is to be written, as a text.
+
+    Raises:
+        TypeError: it isn't one, as a number.
+        ValueError: it has a byte 0, or it is empty.
+        IsADirectoryError: it is a folder.
+    """
+    path = path_of(name, given)
+    if not path:
+        raise ValueError(f"{name}: the path of a file is wanted, and this is empty")
+    if os.path.isdir(path):
+        raise IsADirectoryError(errno.EISDIR, "this is a folder, and a file is wanted", path)
+    return path
+
+
 def number_of(name: str, given: Any) -> int:
     """A whole number.
 
@@ -73,6 +90,16 @@ def number_of(name: str, given: Any) -> int:
         return operator.index(given)
     except TypeError:
         raise wrong(name, "a whole number", given) from None
+
+
+def callable_of(name: str, given: Any) -> None:
+    """Refuses what is neither to be called nor None.
+
+    Raises:
+        TypeError: it is something else, as True.
+    """
+    if given is not None and not callable(given):
+        raise wrong(name, "what is called, or None,", given)
 
 
 def flag_of(name: str, given: Any) -> bool:

@@ -12,6 +12,7 @@ from .answer import Answer
 from .columns import BITS, Selection
 from .library import load_shim
 from .table import Table
+from .values import Filled
 
 if TYPE_CHECKING:
     from .folder import Folder
@@ -117,7 +118,7 @@ def _of_table(owner: Union[Table, Folder], requested_schema: object) -> Any:
     shim = _shim()
     table = owner if isinstance(owner, Table) else owner.read()
     kinds = table.columns if requested_schema is None else _requested(table, requested_schema)
-    selection = Selection(table, kinds, "")
+    selection = Selection(table, kinds, Filled(b""))
     names = list(kinds)
     words = [table.name, *(word for pair in kinds.items() for word in pair)]
     schema = " ".join(words).encode()

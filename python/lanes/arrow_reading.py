@@ -5,9 +5,10 @@ from __future__ import annotations
 
 import contextlib
 import ctypes
+import errno
 from typing import Any, Dict, Generator, List, Tuple
 
-from . import arguments
+from . import arguments, calls
 from .columns import ColumnData
 
 _POINTER, _INT = ctypes.c_void_p, ctypes.c_int64
@@ -60,6 +61,9 @@ _POINTER_OF = ctypes.PYFUNCTYPE(_POINTER, ctypes.py_object, ctypes.c_char_p)(("P
 #: Arrow's letters for whole numbers, and how many bytes each has.
 SIZES = {"c": 1, "s": 2, "i": 4, "l": 8}
 
+#: The types of numpy for these, and for those without a sign.
+_KINDS = {"c": "<i1", "s": "<i2", "i": "<i4", "l": "<i8", "C": "<u1", "S": "<u2", "I": "<u4", "L": "<u8"}
+
 #: The names of other types, by their letters.
 _NAMES = {
     "n": "null", "b": "bool", "C": "uint8", "S": "uint16", "I": "uint32", "L": "uint64", "e": "float16", "f": "float32", "g": "float64",
@@ -108,7 +112,7 @@ def columns_of(data: Any) -> Dict[str, ColumnData]:
     """The columns of whatever gives Arrow's stream.
 
     Raises:
-        TypeError: it gives none, or a column is of another type than int8, int16, int32 and int64.
+        TypeError: it gives none, or a column is no column of whole numbers of 8, 16, 32 or 64 bits.
         ValueError: a column is there twice, or a row as a whole is null.
         OSError: the stream fails.
     """
@@ -128,22 +132,22 @@ def columns_of(data: Any) -> Dict[str, ColumnData]:
                     pieces[name].append(piece)
     finally:
         _release(stream)
-    return {name: _joined(pieces.pop(name), np.dtype(f"<i{size}")) for name, size in kinds}
+    return {name: _joined(pieces.pop(name), np.dtype(kind)) for name, kind in kinds}
 
 
-def _kinds(stream: _Stream) -> List[Tuple[str, int]]:
-    """The columns of a stream: of each its name, and how many bytes a number has."""
+def _kinds(stream: _Stream) -> List[Tuple[str, str]]:
+    """The columns of a stream: of each its name, and its type in numpy."""
     schema = Schema()
     _called(stream, stream.get_schema, schema)
     try:
-        kinds: List[Tuple[str, int]] = []
+        kinds: List[Tuple[str, str]] = []
         for column in children_of(schema):
-            name, size = name_of(column), SIZES.get(_text(column.format))
-            if size is None or column.dictionary:
-                raise TypeError(f"column {name}: int8, int16, int32 or int64 is wanted, and this is {type_name(column)}")
+            name, kind = name_of(column), _KINDS.get(_text(column.format))
+            if kind is None or column.dictionary:
+                raise TypeError(f"column {name}: whole numbers of 8, 16, 32 or 64 bits are wanted, and this is {type_name(column)}")
             if name in dict(kinds):
                 raise ValueError(f"data: the column {name!r} is there twice")
-            kinds.append((name, size))
+            kinds.append((name, kind))
         return kinds
     finally:
         _release(schema)
@@ -162,24 +166,24 @@ def _arrays(stream: _Stream) -> Generator[_Array, None, None]:
             _release(array)
 
 
-def _pieces(array: _Array, kinds: List[Tuple[str, int]]) -> List[ColumnData]:
+def _pieces(array: _Array, kinds: List[Tuple[str, str]]) -> List[ColumnData]:
     """The columns of an array, copied."""
     if array.n_children != len(kinds):
         raise OSError(f"data: the stream gives {array.n_children} columns, and its schema has {len(kinds)}")
     if _nulls(array, array.offset, array.length) is not None:
         raise ValueError("data: a row is null as a whole")
-    return [_piece(array.children[at].contents, array.offset, array.length, size) for at, (_, size) in enumerate(kinds)]
+    return [_piece(array.children[at].contents, array.offset, array.length, kind) for at, (_, kind) in enumerate(kinds)]
 
 
-def _piece(array: _Array, offset: int, length: int, size: int) -> ColumnData:
+def _piece(array: _Array, offset: int, length: int, kind: str) -> ColumnData:
     """Some rows of a column."""
     import numpy as np
 
-    first = array.offset + offset
+    first, size = array.offset + offset, np.dtype(kind).itemsize
     if not length:
-        return ColumnData(np.empty(0, f"<i{size}"), None)
+        return ColumnData(np.empty(0, kind), None)
     block: Any = (ctypes.c_char * (length * size)).from_address(array.buffers[1] + first * size)
-    return ColumnData(np.frombuffer(block, f"<i{size}").copy(), _nulls(array, first, length))
+    return ColumnData(np.frombuffer(block, kind).copy(), _nulls(array, first, length))
 
 
 def _nulls(array: _Array, first: int, length: int) -> Any:
@@ -208,12 +212,15 @@ def _called(stream: _Stream, call: int, out: Any) -> None:
     """Calls a function of a stream, which fills in a struct.
 
     Raises:
+        OutOfMemory: it says that there is no memory.
         OSError: it fails.
     """
     at = ctypes.addressof(stream)
     number = _GET(call)(at, ctypes.addressof(out))
     if number:
         words = _LAST_ERROR(stream.get_last_error)(at) if stream.get_last_error else None
+        if number == errno.ENOMEM:
+            raise calls.refused(calls.MEMORY, sentence="there is no memory for the stream")
         raise OSError(number, f"data: the stream fails: {words.decode(errors='replace') if words else 'it says no more'}")
 
 

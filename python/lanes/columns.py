@@ -8,6 +8,7 @@ from . import arguments, calls, explaining
 
 if TYPE_CHECKING:
     from .table import Table
+    from .values import Filled
 
 #: How many rows a batch has at most.
 _BATCH = 65_536
@@ -27,6 +28,9 @@ class ColumnData(NamedTuple):
 class Columns(Dict[str, ColumnData]):
     """Columns of some rows: of each its data, by its name."""
 
+    #: How many rows there are, also of no columns.
+    rows: int = 0
+
     def to_pandas(self) -> Any:
         """The same as a frame of pandas, with its nullable types. Of a column that has no null it copies nothing."""
         import numpy as np
@@ -36,18 +40,20 @@ class Columns(Dict[str, ColumnData]):
         for name, data in self.items():
             nulls = np.zeros(len(data.values), bool) if data.nulls is None else data.nulls
             made[name] = pd.arrays.IntegerArray(data.values, nulls)
-        return pd.DataFrame(made, copy=False)
+        return pd.DataFrame(made, copy=False) if made else pd.DataFrame(index=pd.RangeIndex(self.rows))
 
 
 class Selection:
     """Columns of the live rows at which a condition is true, in order of row name. Between are the first batch and how many there are, if not
     all are looked at."""
 
-    def __init__(self, table: Table, columns: Optional[Iterable[str]], where: str, between: Optional[Tuple[int, int]] = None) -> None:
+    def __init__(self, table: Table, columns: Optional[Iterable[str]], where: Filled, between: Optional[Tuple[int, int]] = None) -> None:
         kinds = table.columns
         names = list(kinds) if columns is None else names_of(columns, table)
-        self._opened, self._condition, self._between = table._asked(), arguments.text_of("where", where), between
-        with explaining.judged("where", self._condition, table):
+        if len(set(names)) < len(names):
+            raise ValueError(f"columns: {next(name for name in names if names.count(name) > 1)} is there twice")
+        self._opened, self._condition, self._between = table._asked(), where.text, between
+        with explaining.judged("where", where, table):
             #: How many rows there are.
             self.rows = self._opened.columns(" ".join(names).encode(), self._condition, *calls.NO_ROOM, between)
         #: The columns: of each its name and its type.
@@ -100,17 +106,23 @@ def names_of(columns: Iterable[str], table: Table) -> list[str]:
     return found
 
 
-def arrays(table: Table, columns: Optional[Iterable[str]], where: str, between: Optional[Tuple[int, int]] = None) -> Columns:
+def arrays(table: Table, columns: Optional[Iterable[str]], where: Filled, between: Optional[Tuple[int, int]] = None) -> Columns:
     """The columns as arrays."""
     selection = Selection(table, columns, where, between)
     reader = _Reader(selection)
     found: dict[str, ColumnData] = {}
     for names in selection.groups():
         found.update(reader.read(names))
-    return Columns((name, found[name]) for name in selection.kinds)
+    return _counted(Columns((name, found[name]) for name in selection.kinds), selection.rows)
 
 
-def pieces(table: Table, rows: int, columns: Optional[Iterable[str]], where: str) -> Iterator[Columns]:
+def _counted(columns: Columns, rows: int) -> Columns:
+    """Columns of so many rows."""
+    columns.rows = rows
+    return columns
+
+
+def pieces(table: Table, rows: int, columns: Optional[Iterable[str]], where: Filled) -> Iterator[Columns]:
     """The columns in pieces of so many rows, and the last one of those that are left. The arguments are judged at once.
 
     Raises:
@@ -123,16 +135,16 @@ def pieces(table: Table, rows: int, columns: Optional[Iterable[str]], where: str
     return _cut(_runs(table, names, where, count), count)
 
 
-def _runs(table: Table, names: List[str], where: str, wanted: int) -> Iterator[Columns]:
+def _runs(table: Table, names: List[str], where: Filled, wanted: int) -> Iterator[Columns]:
     """The columns of runs of batches: of as many batches as are likely to have the rows that are wanted, and of few rows more."""
     opened, first, step = table._asked(), 0, 1
     most = max(wanted, _BATCH)
     while first < opened.batches():
-        while step > 1 and opened.columns(names[0].encode(), b"", *calls.NO_ROOM, (first, step)) > 2 * most:
+        while step > 1 and opened.columns(b"", b"", *calls.NO_ROOM, (first, step)) > 2 * most:
             step //= 2
         found = arrays(table, names, where, (first, step))
         first += step
-        if _rows_of(found) < most:
+        if found.rows < most:
             step *= 2
         yield found
 
@@ -142,25 +154,20 @@ def _cut(runs: Iterator[Columns], rows: int) -> Iterator[Columns]:
     waiting: List[Columns] = []
     for run in runs:
         waiting.append(run)
-        if sum(map(_rows_of, waiting)) < rows:
+        if sum(part.rows for part in waiting) < rows:
             continue
         whole, first = _joined(waiting), 0
-        while _rows_of(whole) - first >= rows:
+        while whole.rows - first >= rows:
             yield _between(whole, first, first + rows)
             first += rows
-        waiting = [_between(whole, first, _rows_of(whole))]
-    if sum(map(_rows_of, waiting)):
+        waiting = [_between(whole, first, whole.rows)]
+    if sum(part.rows for part in waiting):
         yield _joined(waiting)
-
-
-def _rows_of(columns: Columns) -> int:
-    """How many rows columns have."""
-    return next(len(data.values) for data in columns.values())
 
 
 def _between(columns: Columns, first: int, last: int) -> Columns:
     """Some of the rows."""
-    found = Columns()
+    found = _counted(Columns(), last - first)
     for name, data in columns.items():
         nulls = None if data.nulls is None else data.nulls[first:last]
         found[name] = ColumnData(data.values[first:last], None if nulls is None or not nulls.any() else nulls)
@@ -173,7 +180,7 @@ def _joined(parts: List[Columns]) -> Columns:
 
     if len(parts) == 1:
         return parts[0]
-    found = Columns()
+    found = _counted(Columns(), sum(part.rows for part in parts))
     for name in parts[0]:
         data = [part[name] for part in parts]
         nulls = None
@@ -213,7 +220,7 @@ class _Reader:
             yield names[at], ColumnData(own, _nulls(self._valid[at * stride : (at + 1) * stride], rows) if nulls[at] else None)
 
 
-def frame(table: Table, columns: Optional[Iterable[str]], where: str) -> Any:
+def frame(table: Table, columns: Optional[Iterable[str]], where: Filled) -> Any:
     """The columns as a frame of pandas, with its nullable types."""
     return arrays(table, columns, where).to_pandas()
 

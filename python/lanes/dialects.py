@@ -14,9 +14,6 @@ if TYPE_CHECKING:
 #: What is no separator, besides characters that are not of ASCII.
 _TAKEN = re.compile("[A-Za-z0-9\"\\-_\\\\\r\n\0]")
 
-#: A whole number, as a field may have it.
-_NUMBER = re.compile("-?[0-9]{1,30}")
-
 #: The word for a field that is passed over.
 _PASSED = "-"
 
@@ -36,13 +33,11 @@ class Dialect(NamedTuple):
 
         Raises:
             TypeError: an argument is of another type.
-            ValueError: `separator` is no separator, `null` is a number, or `columns` names no column, or one twice.
+            ValueError: `separator` is no separator, or `columns` names no column, or one twice.
             Refused: `NoSuchColumn` of `columns`.
         """
         has_heading, needs_ends = arguments.flag_of("heading", heading), arguments.flag_of("whole_lines", whole_lines)
         byte, word = _separator_of(separator), arguments.text_of("null", null)
-        if _NUMBER.fullmatch(null):
-            raise ValueError(f"null: {null!r} is a number, so it can't be a null too")
         return cls(has_heading, byte, word, b"" if columns is None else _words_of(columns, table), needs_ends)
 
     def given(self, text: bytes) -> calls.Given:

@@ -9,6 +9,7 @@ from .columns import names_of
 
 if TYPE_CHECKING:
     from .table import Table
+    from .values import Filled
 
 #: How many bytes a field of a dump has at most, with its comma, by its type; and both fields of a row's name.
 _DIGITS, _NAMED = {"TINYINT": 5, "SMALLINT": 7, "INTEGER": 12, "BIGINT": 21}, 30
@@ -17,7 +18,7 @@ _DIGITS, _NAMED = {"TINYINT": 5, "SMALLINT": 7, "INTEGER": 12, "BIGINT": 21}, 30
 _ROOM = 65_536
 
 
-def dumped(table: Table, names: bool, where: Optional[str], columns: Optional[Iterable[str]]) -> calls.Input:
+def dumped(table: Table, names: bool, where: Filled, columns: Optional[Iterable[str]]) -> calls.Input:
     """The live rows at which a condition is true, in some columns, below a heading; with names the columns BATCH and ORDINAL come first.
 
     Raises:
@@ -25,11 +26,10 @@ def dumped(table: Table, names: bool, where: Optional[str], columns: Optional[It
         ValueError: `columns` has no name.
     """
     kinds, has_names = table.columns, arguments.flag_of("names", names)
-    condition = b"" if where is None else arguments.text_of("where", where)
     chosen = list(kinds) if columns is None else names_of(columns, table)
     if not chosen:
         raise ValueError("columns: there is no name of a column")
     room = _ROOM + (sum(_DIGITS[kinds[name]] for name in chosen) + has_names * _NAMED) * table._asked().rows()
     words = b"" if columns is None else " ".join(chosen).encode()
-    with explaining.judged("where", condition, table):
-        return calls.made(calls.DUMP_WHERE, room, table._file, words, condition, has_names)
+    with explaining.judged("where", where, table):
+        return calls.made(calls.DUMP_WHERE, room, table._file, words, where.text, has_names)

@@ -4,10 +4,8 @@ from __future__ import annotations
 
 import errno
 import os
-from typing import TYPE_CHECKING
 
-if TYPE_CHECKING:
-    from .batch_name import BatchName
+from .batch_name import BatchName
 
 #: How many numbers the place of a refusal has, by the refusal's name; the others have none.
 _NUMBERS = {
@@ -44,9 +42,9 @@ class Refused(Error, ValueError):
         self.sentence = sentence
         self.subject = subject
 
-    def said_of(self, subject: str) -> Refused:
-        """The same refusal, said of something."""
-        return type(self)(self.number, self.name, self.args[2], self.sentence, subject)
+    def said_of(self, subject: str, sentence: str = "") -> Refused:
+        """The same refusal, said of something, perhaps in another sentence."""
+        return type(self)(self.number, self.name, self.args[2], sentence or self.sentence, subject)
 
     def __str__(self) -> str:
         between = "." if self.name in ("Conflict", "NotApart", "Missing") else " "

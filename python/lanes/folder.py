@@ -5,23 +5,21 @@ from __future__ import annotations
 import errno
 import html
 import os
-from typing import TYPE_CHECKING, Any, Callable, Iterable, Mapping, NamedTuple, Optional, Tuple, TypeVar, Union, overload
+from typing import Any, Callable, Iterable, Mapping, NamedTuple, Optional, Tuple, TypeVar, Union
 
 from . import arguments, calls, explaining, folder_driver, part_folder, resting
-from .answer import Answer
 from .batch_name import BatchName, GivenName, name_of
 from .column_types import ColumnTypes
+from .csv_fields import Dates
 from .csv_text import Csv
 from .errors import Busy, Damaged, Refused
-from .partial_answers import Partial
-from .streams import ArrowStream
-from .table import Path, Table
+from .owned import OpenFile
+from .pieces import Progress
+from .readable import Readable
+from .table import Table
 from .taken_parts import Parts, Skim
+from .values import NONE, Values, filled
 from .waiting import Wait
-
-if TYPE_CHECKING:
-    from .columns import Columns
-    from .pieces import Progress
 
 #: How many batches a folder may have.
 _MOST = 1_048_576
@@ -52,7 +50,7 @@ class _Basis(NamedTuple):
     relied: list[str]
 
 
-class Folder:
+class Folder(Readable):
     """A folder of parts. Each call reads what is there then; several processes, and the program `lanes`, may use it at once.
 
     For many questions of one state ask a table: `table = folder.read()`. `len` is the number of live rows. Two are equal if they are of the
@@ -63,13 +61,12 @@ class Folder:
     """
 
     def __init__(self, path: Union[str, os.PathLike[str]]) -> None:
-        #: The folder's path.
+        #: The folder's path, from the root: it is the same folder's if the process changes its own afterwards.
         self.path = arguments.path_of("path", path)
-        opened = os.open(self.path, os.O_RDONLY | os.O_DIRECTORY | os.O_CLOEXEC)
-        try:
-            found = os.fstat(opened)
-        finally:
-            os.close(opened)
+        if not os.path.isabs(self.path):
+            self.path = os.path.join(os.getcwd(), self.path)
+        with OpenFile() as opened:
+            found = os.fstat(opened.open_folder(self.path))
         self._identity = found.st_dev, found.st_ino
 
     @classmethod
@@ -104,66 +101,6 @@ class Folder:
         """
         return self._joined()[0]
 
-    def digest(self) -> str:
-        """The digest of what all parts hold together, as of `Table.digest`: that of the file which `read().save` writes."""
-        return self.read().digest()
-
-    def query(self, sql: str) -> Answer:
-        """The answer of a query, as of `Table.query`."""
-        return self.read().query(sql)
-
-    def partial(self, sql: str) -> Partial:
-        """What the folder gives to the answer of a query over several tables, as of `Table.partial`."""
-        return self.read().partial(sql)
-
-    def queries(self, sqls: Iterable[str]) -> list[Answer]:
-        """The answers of several queries over one state."""
-        return self.read().queries(sqls)
-
-    def to_numpy(self, columns: Optional[Iterable[str]] = None, where: str = "") -> Columns:
-        """The live rows as arrays of numpy, as of `Table.to_numpy`."""
-        return self.read().to_numpy(columns, where)
-
-    def to_pandas(self, columns: Optional[Iterable[str]] = None, where: str = "") -> Any:
-        """The live rows as a frame of pandas, as of `Table.to_pandas`."""
-        return self.read().to_pandas(columns, where)
-
-    if TYPE_CHECKING:
-
-        def __arrow_c_stream__(self, requested_schema: object = None) -> object:
-            """The live rows for whatever takes Arrow, as of `Table.__arrow_c_stream__`."""
-
-    else:
-        __arrow_c_stream__ = ArrowStream()
-
-    def summary(self) -> bytes:
-        """What the folder holds, in few bytes, for another replica's `offer`."""
-        return self.read().summary()
-
-    def offer(self, summary: Union[bytes, bytearray, memoryview]) -> bytes:
-        """What another replica does not have, by its summary."""
-        return self.read().offer(summary)
-
-    @overload
-    def dump(self, names: bool = ..., *, where: Optional[str] = ..., columns: Optional[Iterable[str]] = ..., path: None = ...) -> str: ...
-
-    @overload
-    def dump(self, names: bool = ..., *, where: Optional[str] = ..., columns: Optional[Iterable[str]] = ..., path: Path) -> None: ...
-
-    def dump(
-        self,
-        names: bool = False,
-        *,
-        where: Optional[str] = None,
-        columns: Optional[Iterable[str]] = None,
-        path: Optional[Path] = None,
-    ) -> Optional[str]:
-        """The live rows as comma-separated values, as of `Table.dump`."""
-        table = self.read()
-        if path is None:
-            return table.dump(names, where=where, columns=columns)
-        return table.dump(names, where=where, columns=columns, path=path)
-
     def import_csv(
         self,
         csv: Csv,
@@ -172,9 +109,12 @@ class Folder:
         batch: Optional[GivenName] = None,
         progress: Optional[Progress] = None,
         separator: str = ",",
-        null: str = "",
+        null: Union[str, Iterable[str]] = "",
         columns: Optional[Iterable[Optional[str]]] = None,
         whole_lines: bool = False,
+        encoding: str = "utf-8",
+        dates: Optional[Dates] = None,
+        booleans: Iterable[str] = (),
     ) -> int:
         """Adds rows, as `Table.import_csv` does; how many batches are new. Without `batch` only the smallest part is read, and with it the values
         of those parts alone that have a batch of such a name. A load that is sent again under its name adds no rows, and is on the disk
@@ -187,7 +127,17 @@ class Folder:
 
         def added(empty: Table) -> Table:
             return empty.import_csv(
-                csv, heading=heading, batch=batch, progress=progress, separator=separator, null=null, columns=columns, whole_lines=whole_lines
+                csv,
+                heading=heading,
+                batch=batch,
+                progress=progress,
+                separator=separator,
+                null=null,
+                columns=columns,
+                whole_lines=whole_lines,
+                encoding=encoding,
+                dates=dates,
+                booleans=booleans,
             )
 
         return self._add(added, batch)
@@ -195,6 +145,11 @@ class Folder:
     def import_columns(self, columns: Mapping[str, Any], *, batch: Optional[GivenName] = None, progress: Optional[Progress] = None) -> int:
         """Adds rows of arrays, as `Table.import_columns` does; how many batches are new."""
         return self._add(lambda empty: empty.import_columns(columns, batch=batch, progress=progress), batch)
+
+    def import_rows(self, rows: Iterable[Any], *, batch: Optional[GivenName] = None, progress: Optional[Progress] = None) -> int:
+        """Adds rows that are dicts or tuples, as `Table.import_rows` does; how many batches are new."""
+        given = list(arguments.several("rows", "several rows, as dicts or tuples,", rows))
+        return self._add(lambda empty: empty.import_rows(given, batch=batch, progress=progress), batch)
 
     def import_frame(self, frame: Any, *, batch: Optional[GivenName] = None, progress: Optional[Progress] = None) -> int:
         """Adds the rows of a frame of pandas, as `Table.import_frame` does; how many batches are new."""
@@ -204,18 +159,23 @@ class Folder:
         """Adds the rows of Arrow's stream, as `Table.import_arrow` does; how many batches are new."""
         return self._add(lambda empty: empty.import_arrow(data, batch=batch, progress=progress), batch)
 
-    def delete(self, condition: str) -> int:
+    def delete(self, condition: str, values: Values = NONE) -> int:
         """Deletes the rows at which a condition is true; how many there were. Rows that come meanwhile aren't deleted. Deletions of such rows
         that the folder has already are on the disk before the new ones are put.
+
+        Args:
+            condition: the condition, as of `Table.delete`.
+            values: a value for each `?` of the condition.
 
         Raises:
             Refused: a fault of the condition.
             OSError: such a deletion can't be synced, and nothing is put.
         """
+        text = filled("condition", condition, values)
         held, names, deleting = self._basis(resting.has_deletions)
-        rows, part = held._delete_part(condition)
+        rows, part = held._delete_part(text)
         if rows:
-            part_folder.put(self.path, part, resting.with_deletions(self.path, deleting, held, condition))
+            part_folder.put(self.path, part, resting.with_deletions(self.path, deleting, held, text))
         else:
             part_folder.keep(self.path, names)
         return rows
@@ -310,6 +270,18 @@ class Folder:
                 return batches
             wait.again()
 
+    def _table(self) -> Table:
+        return self.read()
+
+    def __enter__(self) -> Folder:
+        return self
+
+    def __exit__(self, *_: object) -> None:
+        self.close()
+
+    def close(self) -> None:
+        """Does nothing: between two calls a folder has nothing open."""
+
     def parts(self) -> list[str]:
         """The names of the parts, in ascending order."""
         return part_folder.listed(self.path)
@@ -323,12 +295,6 @@ class Folder:
     def columns(self) -> dict[str, str]:
         """The columns in order: of each its name and its type, in upper case."""
         return self._heads().empty.columns
-
-    def __len__(self) -> int:
-        return len(self.read())
-
-    def __bool__(self) -> bool:
-        return True
 
     def __eq__(self, other: object) -> bool:
         if not isinstance(other, Folder):

@@ -5,6 +5,7 @@ from __future__ import annotations
 import contextlib
 import errno
 import fcntl
+import io
 import os
 import re
 import secrets
@@ -13,6 +14,7 @@ from typing import Callable, Dict, Iterable, Optional, Tuple
 
 from . import calls
 from .errors import Busy, Damaged, Refused
+from .owned import OpenFile
 from .waiting import Wait
 
 #: The commands of `lanes_folder_begin`.
@@ -48,8 +50,8 @@ class Driver:
 
     def __init__(self, folder: str) -> None:
         self.folder = folder
-        self._opened = os.open(folder, os.O_RDONLY | os.O_DIRECTORY | os.O_CLOEXEC)
-        self._file = self._lock = -1
+        self._opened, self._file, self._lock = OpenFile(), OpenFile(), OpenFile()
+        self._opened.open_folder(folder)
         self._part, self._temporary = memoryview(b""), ""
         self._path = folder
         self._faults: dict[int, OSError] = {}
@@ -127,18 +129,28 @@ class Driver:
     def _make(self, number: int, name: str) -> _Told:
         """Makes the temporary, and takes its lock, so that no sweep removes it."""
         path = os.path.join(self.folder, name)
-        self._let_go()
-        self._file = os.open(path, os.O_WRONLY | os.O_CREAT | os.O_EXCL | os.O_CLOEXEC, 0o666)
+        file = self._file.open(path, os.O_WRONLY | os.O_CREAT | os.O_EXCL)
         self._path, self._temporary = path, name
-        if try_lock(self._file, path, fcntl.LOCK_EX) is False or not is_named(self._file, path):  # without locks no sweep removes it
+        if try_lock(file, path, fcntl.LOCK_EX) is False or not is_named(file, path):  # without locks no sweep removes it
             raise FileExistsError(errno.EEXIST, "a sweep came before its lock", path)
+        self._take_mode(file)
         return _IS_DONE
 
+    def _take_mode(self, file: int) -> None:
+        """Gives an open file the mode of the part of least name, so that who reads the folder's parts reads this one, too. If there is no part, the
+        mode is that of a new file."""
+        for name in sorted(_names_once(self.folder)):
+            with contextlib.suppress(FileNotFoundError):
+                found = os.stat(os.path.join(self.folder, name)).st_mode
+                if stat.S_ISREG(found):
+                    os.fchmod(file, stat.S_IMODE(found))
+                    return
+
     def _write(self, number: int, name: str) -> _Told:
-        return _WROTE, os.write(self._file, self._part[number:]), b""
+        return _WROTE, os.write(self._file.number, self._part[number:]), b""
 
     def _sync(self, number: int, name: str) -> _Told:
-        return self._synced(os.fsync, self._file)
+        return self._synced(os.fsync, self._file.number)
 
     def _link(self, number: int, names: str) -> _Told:
         """Gives the temporary the name of its part."""
@@ -166,7 +178,7 @@ class Driver:
         return _IS_DONE
 
     def _settle(self, number: int, name: str) -> _Told:
-        return self._synced(sync_folder, self._opened)
+        return self._synced(sync_folder, self._opened.number)
 
     def _synced(self, sync: Callable[[int], None], opened: int) -> _Told:
         """Syncs a file or the folder."""
@@ -188,8 +200,7 @@ class Driver:
 
     def _locked(self, kind: int) -> bool:
         """Takes the lock of the folder; False if the file system has none."""
-        self._lock = os.open(self.folder, os.O_RDONLY | os.O_DIRECTORY | os.O_CLOEXEC)
-        return wait_for_lock(self.folder, self._lock, kind)
+        return wait_for_lock(self.folder, self._lock.open_folder(self.folder), kind)
 
     def _list(self, number: int, name: str) -> _Told:
         """Lists the names of parts, in ascending order: those of two listings."""
@@ -198,40 +209,27 @@ class Driver:
 
     def _read(self, number: int, name: str) -> _Told:
         self._path = os.path.join(self.folder, name)
-        self._let_go()
         try:
-            self._file = open_file(self._path)
+            return _FOUND, 0, open_part(self._file, self._path).readall()
         except FileNotFoundError:
             if leads_nowhere(self._path):
                 raise
             return _MISSING, 0, b""
-        with open(self._file, "rb", buffering=0, closefd=False) as file:
-            return _FOUND, 0, file.readall()
 
     def _unlock(self, number: int, name: str) -> _Told:
-        os.close(self._lock)
-        self._lock = -1
+        self._lock.close()
         return _IS_DONE
-
-    def _let_go(self) -> None:
-        """Closes the open file."""
-        if self._file >= 0:
-            os.close(self._file)
-            self._file = -1
 
     def __enter__(self) -> Driver:
         return self
 
     def __exit__(self, *fault: object) -> None:
-        """Lets the folder go. A turn that was broken off leaves no temporary."""
-        if self._temporary:
+        """Lets the folder go. A turn that was broken off leaves no temporary. In a child that was forked meanwhile the turn is its parent's."""
+        if self._temporary and self._opened.is_own:
             with contextlib.suppress(OSError):
                 os.unlink(os.path.join(self.folder, self._temporary))
-        self._let_go()
-        for opened in self._lock, self._opened:
-            if opened >= 0:
-                os.close(opened)
-        self._lock = self._opened = -1
+        for opened in self._lock, self._file, self._opened:
+            opened.close()
 
 
 def temporary() -> str:
@@ -239,21 +237,22 @@ def temporary() -> str:
     return f".part-{secrets.token_hex(8)}"
 
 
-def open_file(path: str) -> int:
-    """A file of a part's name, open. A pipe is not waited for.
+def open_part(file: OpenFile, path: str) -> io.FileIO:
+    """Opens a file of a part's name. A pipe is not waited for.
 
     Raises:
         FileNotFoundError: it is gone.
         OSError: it can't be opened, or is no regular file.
     """
-    opened = os.open(path, os.O_RDONLY | os.O_CLOEXEC | os.O_NONBLOCK)
-    try:
-        if not stat.S_ISREG(os.fstat(opened).st_mode):
-            raise OSError(errno.EINVAL, "this is neither a file nor a folder", path)
-    except BaseException:
-        os.close(opened)
-        raise
-    return opened
+    number = file.open(path, os.O_RDONLY | os.O_NONBLOCK)
+    if not stat.S_ISREG(os.fstat(number).st_mode):
+        raise no_part(path)
+    return io.FileIO(number, closefd=False)
+
+
+def no_part(path: str) -> OSError:
+    """What is raised of what has a part's name, and is neither a file nor a folder."""
+    return OSError(errno.EINVAL, "this is neither a file nor a folder", path)
 
 
 def sync_folder(opened: int) -> None:

@@ -3,7 +3,7 @@
 from __future__ import annotations
 
 import secrets
-from typing import TYPE_CHECKING, Any, List, Mapping, Optional, Tuple, TypeVar
+from typing import TYPE_CHECKING, Any, Iterable, List, Mapping, Optional, Sequence, Tuple, TypeVar, Union
 
 from . import arguments, calls
 from .batch_name import GREATEST, BatchName
@@ -11,6 +11,7 @@ from .columns import BITS, ColumnData
 from .errors import Refused
 from .holdings import Holdings
 from .pieces import AT_ONCE, BATCH, Load, Progress, later, tell
+from .plain_columns import Cells, PlainColumn, PlainRows
 
 if TYPE_CHECKING:
     from .table import Table
@@ -20,6 +21,16 @@ _Table = TypeVar("_Table", bound="Table")
 
 #: How often a name is drawn that nobody has.
 _DRAWS = 16
+
+#: What is said of arrays that have no whole numbers, by the letter of their type.
+_TOLD = {
+    "f": "; floats are not rounded, and pandas has Int64 for numbers with nulls",
+    "b": ", of truth values: .astype('int8') makes 1 and 0 of them",
+    "M": ", of times: .dt.strftime('%Y%m%d').astype('int64') makes numbers of them",
+    "m": ", of spans of time: .dt.total_seconds().round().astype('int64') makes numbers of them",
+    "U": ", of texts: .astype('int64') makes numbers of them",
+    "S": ", of texts: .astype('int64') makes numbers of them",
+}
 
 #: The numbers of refusals that are made here.
 _OUT_OF_TYPE, _NUMBERS_SPENT = 7, 9
@@ -34,10 +45,7 @@ def with_rows(table: _Table, columns: Mapping[str, Any], batch: Optional[BatchNa
         TypeError: values are no whole numbers.
     """
     data = _given(table, columns)
-    lengths = {len(column) for column in data}
-    if len(lengths) != 1:
-        raise ValueError(f"columns: they have {' and '.join(map(str, sorted(lengths)))} rows")
-    rows = lengths.pop()
+    rows = data.rows
     if not rows:
         return table
     batches = -(-rows // BATCH)
@@ -56,16 +64,15 @@ def with_rows(table: _Table, columns: Mapping[str, Any], batch: Optional[BatchNa
     return load.into(table)
 
 
-def _with_piece(table: _Table, columns: List[Column], first: int, last: int, name: Optional[BatchName]) -> _Table:
+def _with_piece(table: _Table, data: Union[ArrayRows, PlainRows], first: int, last: int, name: Optional[BatchName]) -> _Table:
     """The table with some of the rows. Without a name one is drawn.
 
     Raises:
         Refused: `OutOfType` with the first such row of all and its column; and what the library refuses.
     """
-    data = [column.piece(first, last) for column in columns]
-    places = _too_large(data, [BITS[kind] for kind in table.columns.values()])
+    places = data.too_large(first, last, [BITS[kind] for kind in table.columns.values()]) if isinstance(data, ArrayRows) else []
     try:
-        made = table._with_columns(_numbers(data), _bits(data), name)
+        made = table._with_columns(data.cells(first, last), name)
     except Refused as refusal:
         if refusal.number == _OUT_OF_TYPE:
             places.append(refusal.place)
@@ -73,12 +80,25 @@ def _with_piece(table: _Table, columns: List[Column], first: int, last: int, nam
             raise
     if places:
         row, column = min(places)
-        raise calls.refused(_OUT_OF_TYPE, first + row, column) from None
+        raise _outside(table, first + row, column, data.number(column, first + row)) from None
     return made
 
 
-def _given(table: Table, columns: Mapping[str, Any]) -> List[Column]:
-    """The columns that were given, in the table's order."""
+def _outside(table: Table, row: int, column: int, number: int) -> Refused:
+    """The refusal of a number that is outside its column's type."""
+    name, kind = list(table.columns.items())[column]
+    greatest = (1 << BITS[kind] - 1) - 1
+    words = f"row {row}, column {name}: {number} is outside {kind}, which has {-greatest - 1} to {greatest}"
+    return calls.refused(_OUT_OF_TYPE, row, column, words)
+
+
+def _given(table: Table, columns: Mapping[str, Any]) -> Union[ArrayRows, PlainRows]:
+    """The columns that were given, in the table's order. Lists of Python's own numbers alone need no numpy.
+
+    Raises:
+        ValueError: they aren't those of the table, or are of several lengths.
+        TypeError: values are no whole numbers.
+    """
     if not isinstance(columns, Mapping):
         raise arguments.wrong("columns", "a dict of columns", columns)
     for word in columns:
@@ -87,7 +107,21 @@ def _given(table: Table, columns: Mapping[str, Any]) -> List[Column]:
     names = {arguments.column_of(word): word for word in columns}
     if len(names) != len(columns) or set(names) != set(table.columns):
         raise ValueError(f"columns: the columns {', '.join(table.columns)} are wanted, each once, and these are {', '.join(columns) or 'none'}")
-    return [Column(names[name], columns[names[name]]) for name in table.columns]
+    given = [(names[name], columns[names[name]]) for name in table.columns]
+    if all(isinstance(data, (list, tuple, range)) and not isinstance(data, ColumnData) for _, data in given):
+        plain = [PlainColumn.of(name, data) for name, data in given]
+        _judge_lengths(len(column.numbers) for column in plain)
+        return PlainRows(plain)
+    arrays = [Column(name, data) for name, data in given]
+    _judge_lengths(map(len, arrays))
+    return ArrayRows(arrays)
+
+
+def _judge_lengths(lengths: Iterable[int]) -> None:
+    """Refuses columns of several lengths."""
+    found = set(lengths)
+    if len(found) != 1:
+        raise ValueError(f"columns: they have {' and '.join(map(str, sorted(found)))} rows")
 
 
 def columns_of(frame: Any) -> dict[str, Any]:
@@ -95,10 +129,13 @@ def columns_of(frame: Any) -> dict[str, Any]:
 
     Raises:
         TypeError: it is no frame, or a column's name is no text.
-        ValueError: a name is there twice.
+        ValueError: a name is there twice, or the index has a name: it would be lost.
     """
     if not hasattr(frame, "columns") or not hasattr(frame, "iloc"):
         raise arguments.wrong("frame", "a frame of pandas", frame)
+    named = [name for name in frame.index.names if name is not None]
+    if named:
+        raise ValueError(f"frame: the index {', '.join(map(str, named))} is no column: frame.reset_index() makes one of it, frame.reset_index(drop=True) drops it")
     found: dict[str, Any] = {}
     for at, name in enumerate(frame.columns):
         if not isinstance(name, str):
@@ -138,7 +175,7 @@ class Column:
             raise ValueError(f"column {name}: a list of numbers is wanted, and as many nulls")
         kind = self._values.dtype
         if kind.kind not in "iu":
-            raise TypeError(f"column {name}: whole numbers are wanted, and this is {kind}; floats are not rounded, and pandas has Int64 for numbers with nulls")
+            raise TypeError(f"column {name}: whole numbers are wanted, and this is {kind}{_TOLD.get(kind.kind, '')}")
 
     def __len__(self) -> int:
         return len(self._values)
@@ -165,50 +202,57 @@ def _listed(name: str, data: Any) -> Any:
     """The numbers of an array or a list, and which of them are null."""
     import numpy as np
 
-    try:
-        values = np.asarray(data)
-    except ValueError as fault:  # a list of lists
-        raise ValueError(f"column {name}: a list of numbers is wanted: {fault}") from None
-    if values.ndim != 1 or values.size and values.dtype.kind != "O":
+    if isinstance(data, (list, tuple)):
+        return _plain(name, data)
+    values = np.asarray(data)
+    if values.ndim != 1 or values.dtype.kind != "O":
         return values, None
-    return _objects(values.tolist(), name)
+    return _plain(name, values.tolist())
 
 
-def _objects(values: List[Any], name: str) -> Any:
+def _plain(name: str, values: Sequence[Any]) -> Any:
     """Python's own numbers, and None for a null, as arrays."""
     import numpy as np
 
-    nulls = np.array([_is_null(value) for value in values], bool)
-    whole = [0 if is_null else value for value, is_null in zip(values, nulls)]
-    for value in whole:
-        if isinstance(value, (bool, np.bool_)) or not isinstance(value, (int, np.integer)):
-            raise TypeError(f"column {name}: whole numbers and None are wanted, and {value!r} is none")
-    try:
-        return np.array([int(value) for value in whole], np.int64), nulls
-    except OverflowError:
-        row = next(at for at, value in enumerate(whole) if not -(1 << 63) <= value < 1 << 63)
-        raise ValueError(f"column {name}: {whole[row]} in row {row} is outside every type") from None
+    column = PlainColumn.of(name, values)
+    return np.frombuffer(column.numbers, np.int64), np.frombuffer(column.marks, np.uint8) == 0 if column.marks else None
 
 
-def _is_null(value: Any) -> bool:
-    """Whether a value is Python's null or that of pandas."""
-    return value is None or type(value).__name__ == "NAType"
+class ArrayRows:
+    """Columns of one length, of which one or more are arrays."""
 
+    def __init__(self, columns: List[Column]) -> None:
+        self._columns = columns
+        self.rows = len(columns[0])
 
-def _too_large(data: List[ColumnData], bits: List[int]) -> List[Tuple[int, ...]]:
-    """Of each column of unsigned numbers of 64 bits the first row that has one outside the column's type, and which column it is. As a signed
-    number it would be another one, so the library can't tell."""
-    import numpy as np
+    def cells(self, first: int, last: int) -> Cells:
+        """Some of the rows."""
+        data = self._pieces(first, last)
+        numbers, bits = _numbers(data), _bits(data)
+        return Cells(last - first, (numbers.ctypes.data, numbers.size), (bits.ctypes.data, bits.size), (numbers, bits))
 
-    found: List[Tuple[int, ...]] = []
-    for at, (column, width) in enumerate(zip(data, bits)):
-        if column.values.dtype.kind == "u" and column.values.dtype.itemsize == 8:
-            outside = column.values > np.uint64((1 << width - 1) - 1)
-            if column.nulls is not None:
-                outside &= ~column.nulls
-            if outside.any():
-                found.append((int(outside.argmax()), at))
-    return found
+    def number(self, column: int, row: int) -> int:
+        """The number of a cell."""
+        return int(self._columns[column].piece(row, row + 1).values[0])
+
+    def too_large(self, first: int, last: int, bits: List[int]) -> List[Tuple[int, ...]]:
+        """Of each column of unsigned numbers of 64 bits the first of some rows that has one outside the column's type, and which column it is. As a
+        signed number it would be another one, so the library can't tell."""
+        import numpy as np
+
+        found: List[Tuple[int, ...]] = []
+        for at, (column, width) in enumerate(zip(self._pieces(first, last), bits)):
+            if column.values.dtype.kind == "u" and column.values.dtype.itemsize == 8:
+                outside = column.values > np.uint64((1 << width - 1) - 1)
+                if column.nulls is not None:
+                    outside &= ~column.nulls
+                if outside.any():
+                    found.append((int(outside.argmax()), at))
+        return found
+
+    def _pieces(self, first: int, last: int) -> List[ColumnData]:
+        """The data of some rows."""
+        return [column.piece(first, last) for column in self._columns]
 
 
 def _numbers(data: List[ColumnData]) -> Any:

@@ -6,7 +6,6 @@ from __future__ import annotations
 import contextlib
 import errno
 import fcntl
-import io
 import os
 import re
 import secrets
@@ -16,14 +15,19 @@ from typing import Iterable, Iterator, Optional, Sequence
 
 from . import calls, folder_driver
 from .errors import Busy
-from .folder_driver import Driver, is_named, leads_nowhere, try_lock, wait_for_lock
+from .folder_driver import Driver, is_named, is_part_name, leads_nowhere, open_part, try_lock, wait_for_lock
+from .owned import OpenFile
+from .waiting import Wait
 
 _TEMPORARY = re.compile(r"\.part-[0-9a-f]{16}")
+
+#: What comes before the 16 digits of a new folder's name, behind the name that it will have.
+_UNFINISHED = ".lanes-new-"
 
 #: How many bytes at the front of a part have its schema and its number of batches.
 _FRONT = 4096
 
-#: How often a part is put, if the one that was there before is gone when it is compared.
+#: How often a new folder is made, if another process removes it as what a crash left.
 _TRIES = 100
 
 
@@ -41,11 +45,8 @@ def locked(folder: str, kind: int) -> Iterator[bool]:
         Busy: others have had it for ten seconds.
         OSError: it can't be locked.
     """
-    opened = os.open(folder, os.O_RDONLY | os.O_DIRECTORY | os.O_CLOEXEC)
-    try:
-        yield wait_for_lock(folder, opened, kind)
-    finally:
-        os.close(opened)
+    with OpenFile() as opened:
+        yield wait_for_lock(folder, opened.open_folder(folder), kind)
 
 
 def listed(folder: str) -> list[str]:
@@ -62,8 +63,9 @@ def front_of(folder: str, name: str) -> tuple[bytes, int]:
         FileNotFoundError: it is gone.
         OSError: it can't be read, or is no regular file.
     """
-    with _opened(folder, name) as file:
-        return file.read(_FRONT) or b"", os.fstat(file.fileno()).st_size
+    with OpenFile() as opened:
+        file = open_part(opened, os.path.join(folder, name))
+        return file.read(_FRONT) or b"", os.fstat(opened.number).st_size
 
 
 def read_part(folder: str, name: str) -> bytes:
@@ -73,13 +75,8 @@ def read_part(folder: str, name: str) -> bytes:
         FileNotFoundError: it is gone.
         OSError: it can't be read, or is no regular file.
     """
-    with _opened(folder, name) as file:
-        return file.readall()
-
-
-def _opened(folder: str, name: str) -> io.FileIO:
-    """The file of a part's name, open."""
-    return io.FileIO(folder_driver.open_file(os.path.join(folder, name)))
+    with OpenFile() as opened:
+        return open_part(opened, os.path.join(folder, name)).readall()
 
 
 def put(folder: str, data: bytes, relied: Sequence[str] = ()) -> str:
@@ -106,16 +103,18 @@ def put_beside(folder: str, data: bytes, seen: Sequence[str], relied: Sequence[s
 
 
 def _put(folder: str, name: str, command: int, data: bytes, seen: Sequence[str], relied: Sequence[str]) -> int:
-    """What a put comes to. It is begun anew if a sweep took the temporary, or if the part that was there is gone when it is compared."""
+    """What a put comes to. It is begun anew for ten seconds if a sweep took the temporary, or if the part that was there is gone when it is
+    compared."""
     path = os.path.join(folder, name)
-    for _ in range(_TRIES):
+    wait = Wait("the part comes and goes", path)
+    while True:
         with Driver(folder) as driver, contextlib.suppress(FileExistsError):
             end = _followed(driver, command, data, seen, relied)
             if end == folder_driver.UNSYNCED:
                 _warn(path)
             if end != folder_driver.GONE:
                 return end
-    raise Busy("the part comes and goes", path)
+        wait.again()
 
 
 def _followed(driver: Driver, command: int, data: bytes, seen: Sequence[str], relied: Sequence[str]) -> int:
@@ -133,7 +132,8 @@ def _followed(driver: Driver, command: int, data: bytes, seen: Sequence[str], re
 
 
 def keep(folder: str, names: Iterable[str]) -> None:
-    """Has the parts of these names on the disk, if they are there: what took one away is on the disk. A warning tells of what can't be synced.
+    """Has the parts of these names on the disk, if they are there: what took one away is on the disk. The first that can't be synced ends it, and a
+    warning tells of it.
 
     Raises:
         OSError: a part can't be read.
@@ -146,7 +146,7 @@ def keep(folder: str, names: Iterable[str]) -> None:
                 if driver.unsynced is None:
                     raise
                 _warn(driver.unsynced[1])
-                driver.unsynced = None
+                return
 
 
 def _could_not_be_synced(fault: OSError, path: str) -> OSError:
@@ -163,9 +163,10 @@ def make(folder: str, data: bytes) -> None:
     if not name or os.path.lexists(name):
         raise FileExistsError(errno.EEXIST, "there is a file or a folder of this name already", folder)
     above, last = os.path.split(name)
-    outer = os.open(above or ".", os.O_RDONLY | os.O_DIRECTORY | os.O_CLOEXEC)
-    try:
-        held, new = _new_folder(above, last, folder)
+    with OpenFile() as outer, OpenFile() as held:
+        outer.open_folder(above or ".")
+        _clear(above, last)
+        new = _new_folder(held, above, last, folder)
         try:
             put(new, data)
             os.rename(new, name)
@@ -175,44 +176,53 @@ def make(folder: str, data: bytes) -> None:
             with contextlib.suppress(OSError):
                 os.rmdir(new)
             raise
-        finally:
-            os.close(held)
-        _sync(outer, name)
-    finally:
-        os.close(outer)
+        held.close()
+        _sync(outer.number, name)
 
 
-def _new_folder(above: str, last: str, folder: str) -> tuple[int, str]:
-    """An empty folder next to the place of another one, open and locked, so that no command removes it as what a crash left; and its
-    path. Such a command may come before its lock: then another one is made."""
+def _clear(above: str, last: str) -> None:
+    """Removes what a crash left of folders that were to get this name: those that nobody has, and that have nothing but parts and temporaries."""
+    unfinished = re.compile(re.escape(f".{last}{_UNFINISHED}") + "[0-9a-f]{16}")
+    with os.scandir(above or ".") as entries:
+        left = [entry.path for entry in entries if unfinished.fullmatch(entry.name) and entry.is_dir(follow_symlinks=False)]
+    for path in left:
+        with contextlib.suppress(OSError), OpenFile() as held:
+            if try_lock(held.open_folder(path), path, fcntl.LOCK_EX) and is_named(held.number, path):
+                _remove_folder(path)
+
+
+def _remove_folder(path: str) -> None:
+    """Removes a folder that has nothing but parts and temporaries."""
+    names = os.listdir(path)
+    if all(is_part_name(name) or _TEMPORARY.fullmatch(name) for name in names):
+        for name in names:
+            os.unlink(os.path.join(path, name))
+        os.rmdir(path)
+
+
+def _new_folder(held: OpenFile, above: str, last: str, folder: str) -> str:
+    """The path of an empty folder next to the place of another one, which is opened and locked, so that no command removes it as what a crash left.
+    Such a command may come before its lock: then another one is made."""
     for _ in range(_TRIES):
-        new = os.path.join(above, f".{last}.lanes-new-{secrets.token_hex(8)}")
+        new = os.path.join(above, f".{last}{_UNFINISHED}{secrets.token_hex(8)}")
         os.mkdir(new)
         try:
-            held = _held_folder(new)
+            is_had = _is_held(held, new)
         except BaseException:
             with contextlib.suppress(OSError):
                 os.rmdir(new)
             raise
-        if held is not None:
-            return held, new
+        if is_had:
+            return new
     raise Busy("no folder can be made", folder)
 
 
-def _held_folder(new: str) -> Optional[int]:
-    """A new folder, open and locked; None if it is gone, or another process has it, which removes it. Without locks no process does."""
+def _is_held(held: OpenFile, new: str) -> bool:
+    """Whether a new folder is opened and locked; not if it is gone, or another process has it, which removes it. Without locks no process does."""
     try:
-        held = os.open(new, os.O_RDONLY | os.O_DIRECTORY | os.O_CLOEXEC)
+        return try_lock(held.open_folder(new), new, fcntl.LOCK_EX) is not False and is_named(held.number, new)
     except FileNotFoundError:
-        return None
-    try:
-        if try_lock(held, new, fcntl.LOCK_EX) is not False and is_named(held, new):
-            return held
-    except BaseException:
-        os.close(held)
-        raise
-    os.close(held)
-    return None
+        return False
 
 
 def replace(folder: str, turn: calls.Turn, room: int) -> Optional[int]:
@@ -250,20 +260,18 @@ def _sweep_one(path: str) -> None:
     """Removes a temporary, if its lock is to be had and it still has its name."""
     if not stat.S_ISREG(os.lstat(path).st_mode):
         return
-    file = os.open(path, os.O_RDONLY | os.O_NOFOLLOW | os.O_CLOEXEC)
-    try:
-        fcntl.flock(file, fcntl.LOCK_EX | fcntl.LOCK_NB)
-        if is_named(file, path):
+    with OpenFile() as file:
+        fcntl.flock(file.open(path, os.O_RDONLY | os.O_NOFOLLOW), fcntl.LOCK_EX | fcntl.LOCK_NB)
+        if is_named(file.number, path):
             os.unlink(path)
-    finally:
-        os.close(file)
 
 
 def size(folder: str, name: str) -> Optional[int]:
-    """How many bytes a part has; None if it is gone, or is no regular file.
+    """How many bytes a part has; None if it is gone, or is a folder.
 
     Raises:
         FileNotFoundError: it is a link that leads nowhere.
+        OSError: it is neither a file nor a folder.
     """
     path = os.path.join(folder, name)
     try:
@@ -272,7 +280,11 @@ def size(folder: str, name: str) -> Optional[int]:
         if leads_nowhere(path):
             raise
         return None
-    return found.st_size if stat.S_ISREG(found.st_mode) else None
+    if stat.S_ISDIR(found.st_mode):
+        return None
+    if not stat.S_ISREG(found.st_mode):
+        raise folder_driver.no_part(path)
+    return found.st_size
 
 
 def _sync(opened: int, path: str) -> None:

@@ -12,6 +12,7 @@ from .batch_name import GREATEST, BatchName
 from .errors import Refused
 
 if TYPE_CHECKING:
+    from .csv_text import Text
     from .dialects import Dialect
     from .table import Table
 
@@ -90,6 +91,29 @@ def with_text(table: _Table, text: bytes, dialect: Dialect, batch: Optional[Batc
         own = later(name, index * (AT_ONCE // BATCH))
         load.add(_made_of(piece, text, load.empty, dialect, own))
         tell(progress, piece.bytes_read, len(text))
+    return load.into(table)
+
+
+def with_texts(table: _Table, texts: List[Text], dialect: Dialect, batch: Optional[BatchName], progress: Optional[Progress]) -> _Table:
+    """The table with the rows of several texts, one after another, in one load: their batches have consecutive names.
+
+    Raises:
+        Refused: the first text's first fault, said of its path; and what an import is refused as.
+    """
+    from .given_columns import drawn_name
+
+    name = batch or drawn_name(table, sum(-(-text.data.count(b"\n") // BATCH) + 1 for text in texts))
+    load, done, whole = Load(table), 0, sum(len(text.data) for text in texts)
+    for at, text in enumerate(texts):
+        try:
+            made = with_text(load.empty, text.data, dialect, name, None)
+        except Refused as refused:
+            raise refused.said_of(text.subject or f"csv[{at}]") from None
+        load.add(made)
+        batches, done = made._asked().batches(), done + len(text.data)
+        tell(progress, done, whole)
+        if batches and at + 1 < len(texts):
+            name = later(name, batches)
     return load.into(table)
 
 

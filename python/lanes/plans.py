@@ -19,6 +19,7 @@ from .errors import NotApart, Refused
 from .partial_answers import Partial, judge, names_batch
 from .schema import Schema
 from .table import Table
+from .values import NONE, Values, filled
 
 #: How much room an answer's text is given at first, and a partial answer beside those that it is made of.
 _ROOM = 65_536
@@ -66,14 +67,20 @@ class Plan:
         return finish(partial, expect)
 
 
-def split(sql: str, table: Table) -> Plan:
+def split(sql: str, table: Table, values: Values = NONE) -> Plan:
     """How a query is asked of many tables of one name and the same columns. Of the table nothing else is used.
+
+    Args:
+        sql, values: the query, and a value for each `?` of it, as of `Table.query`.
+        table: any table of these columns.
 
     Raises:
         Refused: what `query` refuses the text as.
     """
     arguments.is_of("table", Table, table)
-    return Plan(sql, table.name, table.columns)
+    arguments.text_of("sql", sql)
+    table.query(sql, values)
+    return Plan(filled("sql", sql, values).text.decode(), table.name, table.columns)
 
 
 def combine(partials: Iterable[_Bytes]) -> Partial:
@@ -143,6 +150,8 @@ def check_apart(tables: Iterable[Table]) -> None:
     Raises:
         NotApart: with the batch's name.
     """
+    if isinstance(tables, Table):
+        raise arguments.wrong("tables", "several tables", tables, "are")
     given = [arguments.is_of("tables", Table, table) for table in arguments.several("tables", "several tables", tables)]
     partials = [table.partial(f"SELECT COUNT(*) FROM {table.name}") for table in given]
     if partials:

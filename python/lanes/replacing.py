@@ -10,8 +10,9 @@ import fcntl
 import os
 import stat
 import warnings
-from typing import Optional, Union
+from typing import Union
 
+from .owned import OpenFile, when_gone
 from .waiting import Wait
 
 
@@ -26,11 +27,8 @@ def replace(path: Union[str, os.PathLike[str]], data: Union[bytes, memoryview]) 
         OSError: the file can't be written. It is as it was.
     """
     if _is_written_in_place(path):
-        file = os.open(path, os.O_WRONLY | os.O_CLOEXEC)
-        try:
-            _write(file, data)
-        finally:
-            os.close(file)
+        with OpenFile() as file:
+            _write(file.open(os.fspath(path), os.O_WRONLY), data)
         return
     with Held(path) as held:
         held.put(data)
@@ -48,11 +46,11 @@ class Held:
         #: The file itself, behind its links.
         self.target = os.path.realpath(path)
         self._folder, name = os.path.split(self.target)
-        self._lock = os.path.join(self._folder, f".{name}.lanes-lock")
-        self._is_put = False
-        self._file = _held(self.target, self._lock)
+        self._lock = _Lock(os.path.join(self._folder, f".{name}.lanes-lock"))
+        when_gone(self, self._lock.release)
         try:
-            _take_mode(self._file, self.target)
+            self._lock.wait(self.target)
+            _take_mode(self._lock.file.number, self.target)
         except BaseException:
             self.release()
             raise
@@ -63,25 +61,20 @@ class Held:
         Raises:
             OSError: the file can't be written. It is as it was.
         """
-        folder = os.open(self._folder, os.O_RDONLY | os.O_DIRECTORY | os.O_CLOEXEC)
-        try:
-            os.ftruncate(self._file, 0)
-            _write(self._file, data)
-            os.fsync(self._file)
-            os.rename(self._lock, self.target)
-            self._is_put = True
-            self._sync(folder, "this was replaced, but its folder could not be synced")
-        finally:
-            os.close(folder)
+        file = self._lock.file.number
+        with OpenFile() as folder:
+            folder.open_folder(self._folder)
+            os.ftruncate(file, 0)
+            _write(file, data)
+            os.fsync(file)
+            os.rename(self._lock.path, self.target)
+            self._sync(folder.number, "this was replaced, but its folder could not be synced")
 
     def settle(self) -> None:
         """Has the file that is there on the disk: syncs it, and its folder."""
-        for path in self.target, self._folder:
-            opened = os.open(path, os.O_RDONLY | os.O_CLOEXEC)
-            try:
-                self._sync(opened, "this is there, but it could not be synced")
-            finally:
-                os.close(opened)
+        with OpenFile() as opened:
+            for path in self.target, self._folder:
+                self._sync(opened.open(path, os.O_RDONLY), "this is there, but it could not be synced")
 
     def _sync(self, opened: int, words: str) -> None:
         """Syncs an open file or folder. If that fails, a warning says so."""
@@ -92,12 +85,7 @@ class Held:
 
     def release(self) -> None:
         """Takes the lock away, unless it has become the file."""
-        if self._file < 0:
-            return
-        if not self._is_put and _is_named(self._file, self._lock):
-            os.unlink(self._lock)
-        os.close(self._file)
-        self._file = -1
+        self._lock.release()
 
     def __enter__(self) -> Held:
         return self
@@ -114,51 +102,66 @@ def _is_written_in_place(path: Union[str, os.PathLike[str]]) -> bool:
         return False
 
 
-def _held(target: str, lock: str) -> int:
-    """The lock of a file, once this process has it, as a descriptor."""
-    wait = Wait("another process has had the file for ten seconds", target)
-    while True:
-        file = _tried(lock)
-        if file is not None:
-            return file
-        wait.again()
+class _Lock:
+    """The lock of a file."""
 
+    def __init__(self, path: str) -> None:
+        self.path = path
+        self.file = OpenFile()
 
-def _tried(lock: str) -> Optional[int]:
-    """The lock, if nobody else has it. One that was there already is removed once it is locked, and is not had then."""
-    try:
-        file, is_new = _made_or_opened(lock)
-    except FileNotFoundError:
-        if os.path.isdir(os.path.dirname(lock)):
-            return None
-        raise FileNotFoundError(errno.ENOENT, "there is no such folder", os.path.dirname(lock)) from None
-    is_had = False
-    try:
+    def wait(self, target: str) -> None:
+        """Takes the lock.
+
+        Raises:
+            Busy: another process has had it for ten seconds.
+            OSError: it can't be had.
+        """
+        wait = Wait("another process has had the file for ten seconds", target)
+        while not self._tried():
+            wait.again()
+
+    def _tried(self) -> bool:
+        """Whether this process has it now. One that was there already is removed once it is locked, and then this process does not have it."""
         try:
-            fcntl.flock(file, fcntl.LOCK_EX | fcntl.LOCK_NB)
+            is_new = self._made_or_opened()
+        except FileNotFoundError:
+            if os.path.isdir(os.path.dirname(self.path)):
+                return False
+            raise FileNotFoundError(errno.ENOENT, "there is no such folder", os.path.dirname(self.path)) from None
+        try:
+            fcntl.flock(self.file.number, fcntl.LOCK_EX | fcntl.LOCK_NB)
         except BlockingIOError:
-            return None
-        if _is_named(file, lock):
-            is_had = is_new
-            if not is_new:
-                os.unlink(lock)
-        return file if is_had else None
-    finally:
-        if not is_had:
-            os.close(file)
+            self.file.close()
+            return False
+        if is_new and _is_named(self.file.number, self.path):
+            return True
+        self.release()
+        return False
 
+    def _made_or_opened(self) -> bool:
+        """Opens the lock's file; whether it was made. What is no regular file is refused, links too."""
+        try:
+            self.file.open(self.path, os.O_WRONLY | os.O_CREAT | os.O_EXCL)
+            return True
+        except FileExistsError:
+            if not stat.S_ISREG(os.lstat(self.path).st_mode):
+                raise
+        try:
+            self.file.open(self.path, os.O_WRONLY | os.O_NOFOLLOW)
+        except PermissionError:
+            self.file.open(self.path, os.O_RDONLY | os.O_NOFOLLOW)
+        return False
 
-def _made_or_opened(lock: str) -> tuple[int, bool]:
-    """The lock's file, and whether it was made. What is no regular file is refused, links too."""
-    try:
-        return os.open(lock, os.O_WRONLY | os.O_CREAT | os.O_EXCL | os.O_CLOEXEC, 0o666), True
-    except FileExistsError:
-        if not stat.S_ISREG(os.lstat(lock).st_mode):
-            raise
-    try:
-        return os.open(lock, os.O_WRONLY | os.O_NOFOLLOW | os.O_CLOEXEC), False
-    except PermissionError:
-        return os.open(lock, os.O_RDONLY | os.O_NOFOLLOW | os.O_CLOEXEC), False
+    def release(self) -> None:
+        """Removes the lock, unless it has become the file or another process has it, and lets it go. A child that was forked meanwhile leaves it."""
+        try:
+            if self.file.is_open and self.file.is_own and _is_named(self.file.number, self.path):
+                fcntl.flock(self.file.number, fcntl.LOCK_EX | fcntl.LOCK_NB)
+                os.unlink(self.path)
+        except BlockingIOError:
+            pass
+        finally:
+            self.file.close()
 
 
 def _is_named(file: int, name: str) -> bool:
@@ -170,13 +173,16 @@ def _is_named(file: int, name: str) -> bool:
 
 
 def _take_mode(file: int, target: str) -> None:
-    """Gives an open file the mode of a file, if there is one. What is no regular file is refused."""
+    """Gives an open file the mode of a file, if there is one. What is no regular file is refused, and so is what may not be written: its folder
+    could be, and it would be replaced all the same."""
     try:
         old = os.stat(target)
     except FileNotFoundError:
         return
     if not stat.S_ISREG(old.st_mode):
         raise OSError(errno.EINVAL, "this is no regular file", target)
+    with OpenFile() as opened:
+        opened.open(target, os.O_WRONLY)
     os.fchmod(file, stat.S_IMODE(old.st_mode))
 
 

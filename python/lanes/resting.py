@@ -10,6 +10,7 @@ from . import part_folder
 from .errors import Refused
 from .holdings import Holdings
 from .table import Table
+from .values import Filled
 
 #: Rows of a batch that were deleted: the first ordinal and the last one.
 _Range = Tuple[int, int]
@@ -23,7 +24,7 @@ def has_deletions(part: bytes) -> bool:
     return not part.endswith(_NO_DELETIONS)
 
 
-def with_deletions(folder: str, names: Iterable[str], held: Table, condition: str) -> List[str]:
+def with_deletions(folder: str, names: Iterable[str], held: Table, condition: Filled) -> List[str]:
     """Those of the parts that have deleted a row at which a condition is true. All that have deletions are among them. The table is what all parts
     hold together. A part that is gone is left out: what took it away is on the disk. One that has other bytes now is not: it is found so when
     it is kept.
@@ -50,7 +51,7 @@ def _has_deleted(part: bytes, rows: Dict[bytes, List[_Range]]) -> bool:
     return any(_meet(_ranges_of(data), rows[name]) for name, data in ranges if name in rows)
 
 
-def _rows_with_deletions(held: Table, condition: str) -> Dict[bytes, List[_Range]]:
+def _rows_with_deletions(held: Table, condition: Filled) -> Dict[bytes, List[_Range]]:
     """The rows at which a condition is true, deleted ones too, of the batches of which some row is deleted."""
     others = [name for name, ranges in Holdings.of(held).batches.items() if not ranges]
     front = held.summary()[: len(held._front())]

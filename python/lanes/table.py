@@ -4,28 +4,29 @@ from __future__ import annotations
 
 import ctypes
 import errno
+import io
 import os
 import re
 import secrets
 import stat
 import zlib
-from typing import TYPE_CHECKING, Any, Iterable, Iterator, Mapping, Optional, Type, TypeVar, Union, overload
+from typing import TYPE_CHECKING, Any, Iterable, Mapping, Optional, Type, TypeVar, Union
 
-from . import arguments, calls, explaining, replacing
-from .answer import Answer, Value
+from . import arguments, calls, explaining
 from .batch_name import BatchName, GivenName, name_of
 from .column_types import ColumnTypes, holding, type_of
-from .csv_text import Csv, text_of
+from .csv_fields import Dates, FieldChanges, null_words
+from .csv_text import Csv, texts_of
 from .errors import Refused
-from .partial_answers import Partial
+from .owned import OpenFile
+from .pieces import Progress, with_text, with_texts
+from .readable import Readable
 from .schema import Schema
-from .streams import ArrowStream
+from .values import NONE, Filled, Values, filled
 
 if TYPE_CHECKING:
-    from .columns import Columns
     from .dialects import Dialect
-    from .folder import Folder
-    from .pieces import Progress
+    from .plain_columns import Cells
     from .taken_parts import Parts
 
 #: How much room an answer's text is given at first, and a file beside its inputs.
@@ -40,8 +41,8 @@ _WORDS = 8
 #: How many bytes of two files are compared at once.
 _PIECE = 1 << 20
 
-#: The number of a refusal that is made here.
-_BAD_SCHEMA = 12
+#: The numbers of refusals that are looked at or made here.
+_BAD_SCHEMA, _BAD_RANGE = 12, 23
 
 #: How many bytes have the front of a file, whatever its schema.
 _FRONT = 4096
@@ -55,14 +56,11 @@ _WORD = re.compile("[A-Za-z][A-Za-z0-9_]{0,63}")
 #: What is taken for bytes.
 _Bytes = Union[bytes, bytearray, memoryview]
 
-#: What is taken for a path.
-Path = Union[str, "os.PathLike[str]"]
-
 #: A table's own class.
 _Self = TypeVar("_Self", bound="Table")
 
 
-class Table:
+class Table(Readable):
     """What a replica of a table holds. It never changes, and any number of threads may use it at once. Of a subclass all calls give that
     subclass; it is made of a file alone.
 
@@ -157,11 +155,10 @@ class Table:
 
     @classmethod
     def open(cls: Type[_Self], path: Union[str, os.PathLike[str]]) -> _Self:
-        """The table of a file. The file isn't copied: the system maps it. A pipe is read to its end; a folder of parts is opened by
-        `lanes.Folder`.
+        """The table of a file, which is read whole. A pipe is read to its end; a folder of parts is opened by `lanes.Folder`.
 
-        The file may be replaced by another one meanwhile, as `save` and the program `lanes` do, and this table is as it was. It must not
-        be overwritten in its place.
+        Whatever becomes of the file afterwards, this table is as it was. Of a file that is written in its place while it is read, and not
+        replaced as `save` and the program `lanes` do, some may be new and some old: what is no table then is refused.
 
         Raises:
             IsADirectoryError: it is a folder.
@@ -169,16 +166,11 @@ class Table:
             Refused: the file's first fault. Its subject is the path.
         """
         name = arguments.path_of("path", path)
-        try:
-            file = open(name, "rb", buffering=0)
-        except IsADirectoryError:
-            raise IsADirectoryError(errno.EISDIR, "this is a folder, and not a file: lanes.Folder opens a folder of parts", name) from None
-        with file:
-            found = os.fstat(file.fileno())
-            if stat.S_ISREG(found.st_mode):
-                table = cls(calls.Mapped.of_file(file.fileno(), found.st_size) if found.st_size else b"")
-            else:
-                table = cls(file.read())
+        with OpenFile() as file:  # it is read and not mapped: who shortens a file that is mapped kills those who have it
+            opened = file.open(name, os.O_RDONLY)
+            if stat.S_ISDIR(os.fstat(opened).st_mode):
+                raise IsADirectoryError(errno.EISDIR, "this is a folder, and not a file: lanes.Folder opens a folder of parts", name)
+            table = cls(io.FileIO(opened, closefd=False).readall())
         try:
             table._asked()
         except Refused as refusal:
@@ -216,17 +208,8 @@ class Table:
         """The canonical file."""
         return bytes(self._file)
 
-    def save(self, path: Union[str, os.PathLike[str]]) -> None:
-        """Writes the file, in one step: whoever opens it meets the old one or the new one, whole, also after a crash. The program `lanes`
-        takes the same lock. A symbolic link is followed, and what is no regular file, as a pipe, is written in place.
-
-        What another process did to the file since it was opened is replaced, too: `lanes.update` reads, changes and writes under one lock.
-
-        Raises:
-            Busy: another process has had the file for ten seconds. It is as it was.
-            OSError: the file can't be written. It is as it was.
-        """
-        replacing.replace(arguments.path_of("path", path), self._view())
+    def _table(self) -> Table:
+        return self
 
     @property
     def name(self) -> str:
@@ -238,125 +221,6 @@ class Table:
         """The columns in order: of each its name and its type, in upper case."""
         return dict(self._schema().columns)
 
-    def check(self) -> tuple[int, int]:
-        """How many batches there are, and how many maximal ranges of deleted rows. The file is judged anew.
-
-        Raises:
-            Refused: the first fault of the file.
-        """
-        line = calls.given(calls.CHECK, _ROOM, self._file).decode()
-        found = re.fullmatch(r"ok batches=(\d+) ranges=(\d+)\n", line)
-        assert found
-        return int(found[1]), int(found[2])
-
-    def digest(self) -> str:
-        """The digest of what the table holds: the first 32 hexadecimal digits of the SHA-512 of its file. Replicas of one table that hold the
-        same have the same digest, and, but for a collision, only these: so they are compared without moving them. `lanes check --digest`
-        prints it.
-
-        Raises:
-            Refused: the first fault of the file.
-        """
-        return self._asked().digest().decode()
-
-    def inspect(self) -> dict[str, Any]:
-        """What is in the table, under the keys of `lanes inspect --format json`, without those of stored rows and codings: `table`,
-        `batches`, `live`, `ranges`, `bytes`, and `columns`, a list of dicts with `column`, `type`, `nulls`, `values`, `least` and
-        `greatest` of the live rows."""
-        batches, ranges = self.check()
-        kinds = self.columns
-        asked = "".join(f",COUNT({column}),MIN({column}),MAX({column})" for column in kinds)
-        live, *cells = self.query(f"SELECT COUNT(*){asked} FROM {self.name}")[0]
-        columns = []
-        for (column, kind), values, least, greatest in zip(kinds.items(), cells[0::3], cells[1::3], cells[2::3]):
-            nulls = _whole(live) - _whole(values)
-            columns.append({"column": column, "type": kind, "nulls": nulls, "values": values, "least": least, "greatest": greatest})
-        return {"table": self.name, "batches": batches, "live": live, "ranges": ranges, "bytes": self._length(), "columns": columns}
-
-    def query(self, sql: str) -> Answer:
-        """The rows that a query asks for, under their headings. docs/SQL.md has the language.
-
-        Raises:
-            Refused: a fault of the query with its byte, as `Syntax`, or of the file.
-        """
-        text = arguments.text_of("sql", sql)
-        opened = self._asked()
-        with explaining.explained(self, calls.Given(calls.QUERY, text)):
-            return Answer.of_kept(opened.answer(text), sql)
-
-    def partial(self, sql: str) -> Partial:
-        """What this table gives to the answer of a query over several tables, for `lanes.combine` and `lanes.finish`.
-
-        Raises:
-            Refused: what `query` refuses.
-        """
-        text = arguments.text_of("sql", sql)
-        opened = self._asked()
-        with explaining.explained(self, calls.Given(calls.QUERY, text)):
-            return Partial(opened.partial(self._file_room(), text))
-
-    def queries(self, sqls: Iterable[str]) -> list[Answer]:
-        """The answers of several queries, in order.
-
-        Raises:
-            Refused: the fault of the first query that has one.
-            TypeError: `sqls` is one text, and not several.
-        """
-        return [self.query(sql) for sql in arguments.several("sqls", "several texts", sqls)]
-
-    @overload
-    def dump(self, names: bool = ..., *, where: Optional[str] = ..., columns: Optional[Iterable[str]] = ..., path: None = ...) -> str: ...
-
-    @overload
-    def dump(self, names: bool = ..., *, where: Optional[str] = ..., columns: Optional[Iterable[str]] = ..., path: Path) -> None: ...
-
-    def dump(
-        self,
-        names: bool = False,
-        *,
-        where: Optional[str] = None,
-        columns: Optional[Iterable[str]] = None,
-        path: Optional[Path] = None,
-    ) -> Optional[str]:
-        """The live rows, in order of row name, as comma-separated values below a heading, as `lanes dump` writes them.
-
-        Args:
-            names: whether the columns BATCH and ORDINAL, which name a row, come first.
-            `where`: a condition, as after WHERE in a query. Without it all live rows.
-            columns: the columns that are wanted, in order. Without them all.
-            path: the file that the text is written into, in one step, as `save` does. Then None is given, and no text is made of it.
-
-        Raises:
-            Refused: `NoSuchColumn`, or a fault of the condition.
-            ValueError: `columns` has no name.
-            Busy: another process has had the file of the path for ten seconds.
-            OSError: the file can't be written. It is as it was.
-        """
-        from .dumps import dumped
-
-        target = None if path is None else arguments.path_of("path", path)
-        text = dumped(self, names, where, columns)
-        if target is None:
-            return str(calls.view_of(text), "ascii")
-        replacing.replace(target, calls.view_of(text))
-        return None
-
-    def head(self, count: int = 5) -> Answer:
-        """The first live rows, in order of row name, as an answer whose headings are the columns. No more batches are read than have them.
-
-        Args:
-            count: how many there are at most.
-
-        Raises:
-            ValueError: `count` is less than 0.
-        """
-        from .first_rows import first_rows
-
-        most = arguments.number_of("count", count)
-        if most < 0:
-            raise ValueError(f"count: 0 rows or more are wanted, and this is {most}")
-        return Answer(list(self.columns), first_rows(self, most))
-
     def import_csv(
         self: _Self,
         csv: Csv,
@@ -365,36 +229,52 @@ class Table:
         batch: Optional[GivenName] = None,
         progress: Optional[Progress] = None,
         separator: str = ",",
-        null: str = "",
+        null: Union[str, Iterable[str]] = "",
         columns: Optional[Iterable[Optional[str]]] = None,
         whole_lines: bool = False,
+        encoding: str = "utf-8",
+        dates: Optional[Dates] = None,
+        booleans: Iterable[str] = (),
     ) -> _Self:
         """The table with more rows: those of comma-separated values. A field is a whole number, or empty for a null.
 
         Args:
-            csv: the text itself, a file that is open for reading, or a path object, as pathlib.Path("monday.csv").
+            csv: the text itself, a file that is open for reading, or a path, as "monday.csv"; one that ends in .gz is unpacked. A text without a
+                line's end is a path if it ends in .csv, .tsv, .txt or .gz, has a slash, or is the path of a file; so give texts that come from others
+                as bytes. Or several: a list, or a path with `*`, whose files go in one after another, in one load.
             heading: whether the first line names all columns, in any order. Else fields are in the table's order.
             progress: what is called with how many bytes of the text are in and how many there are, after each 262,144 rows. Between two such
                 calls Ctrl-C is heard, too. What is raised ends the import.
             batch: the first batch's name, as `"1.17"` or `(1, 17)`. The same rows under the same name change nothing, so a load may be
-                sent twice. Without it a name is drawn at random that nobody else has.
+                sent twice. Without it a name is drawn at random that this table does not have.
             separator: what is between two fields: one ASCII character, but no letter, no digit, and none of `" - _ \\` and a line's end.
-            null: a word that is a null too, as "NA".
+            null: a word that is a null too, as "NA", or several.
             columns: what the fields of a line are: of each the name of its column, or "-" or None if it is passed over. A column that no field
                 is of is null. The heading is then any line that is no row.
             whole_lines: whether a last line without an end is refused: the text may be cut off.
+            encoding: in what bytes and files are written, as "latin-1".
+            dates: the columns whose fields are dates, and as which number each is taken: {"DAY": "%Y%m%d"} makes 20261201 of 2026-12-01. If they are
+                not written so, give both formats: {"DAY": ("%d.%m.%Y", "%Y%m%d")}.
+            booleans: the columns whose fields are true or false, yes or no, t or f, y or n, which are taken as 1 and 0.
 
         Raises:
-            Refused: the first fault of the text with its line, `NoSuchColumn`, `Conflict` if the name has other rows, and others.
-            ValueError: `batch` is no name; or `csv` is a text without a line's end that ends as a path does, or is the path of a file; or
-                `separator`, `null` or `columns` can't be one.
+            Refused: the first fault of the text with its line, `NoSuchColumn`, `Conflict` if the name has other rows, and others. Of several files
+                its subject is the path.
+            ValueError: `batch` is no name; or `separator`, `null`, `columns`, `encoding`, `dates` or `booleans` can't be one; or `csv` are bytes that
+                seem to be a path.
             TypeError: `csv` is neither a text nor bytes nor a file.
+            OSError: a file can't be read.
         """
         from .dialects import Dialect
-        from .pieces import with_text
 
-        dialect, text = Dialect.of(self, heading, separator, null, columns, whole_lines), text_of(csv)
-        return with_text(self, text, dialect, name_of(batch) if batch is not None else None, progress)
+        arguments.callable_of("progress", progress)
+        name, nulls = name_of(batch) if batch is not None else None, null_words(null)
+        dialect = Dialect.of(self, heading, separator, nulls[0] if nulls else "", columns, whole_lines)
+        changes = FieldChanges(self, dialect, [word.encode() for word in nulls] if len(nulls) > 1 else [], dates, booleans)
+        texts = [text._replace(data=changes.of(text.data)) for text in texts_of(csv, separator, encoding)]
+        if len(texts) > 1:
+            return with_texts(self, texts, dialect, name, progress)
+        return with_text(self, texts[0].data, dialect, name, progress)
 
     def _with_rows_of(self: _Self, text: bytes, dialect: Dialect, batch: Optional[BatchName]) -> _Self:
         """The table with the rows of a text, by one call."""
@@ -402,71 +282,15 @@ class Table:
         with explaining.explained(self, dialect.given(text)):
             return self._made(calls.made(calls.IMPORT_IN, room, self._file, text, *dialect.words(), *_named(batch)))
 
-    def _with_columns(self: _Self, numbers: Any, bits: Any, batch: Optional[BatchName]) -> _Self:
-        """The table with the rows of columns: an array of 64-bit numbers that has a row for each column, and the columns' bits, which are 1 at
-        a value, or none if each cell is one.
+    def _with_columns(self: _Self, cells: Cells, batch: Optional[BatchName]) -> _Self:
+        """The table with the rows of columns.
 
         Raises:
             Refused: what the call refuses.
         """
-        given = numbers.shape[1], (numbers.ctypes.data, numbers.size), (bits.ctypes.data, bits.size)
         with explaining.explained(self, calls.Given(calls.ROWS, b"")):
-            opened = self._asked().with_columns(*given, _named(batch))
-        return self._of_opened(opened, self._file_room() + _CELL * numbers.size)
-
-    def to_numpy(self, columns: Optional[Iterable[str]] = None, where: str = "") -> Columns:
-        """The live rows, in order of row name, as arrays of numpy: a dict of `ColumnData`, of each column its values, of the column's own type,
-        and which rows are null.
-
-        Args:
-            columns: the columns that are wanted, in order. Without them all.
-            `where`: a condition, as after WHERE in a query. Without it all live rows.
-
-        Raises:
-            Refused: `NoSuchColumn`, or a fault of the condition.
-        """
-        from .columns import arrays
-
-        return arrays(self, columns, where)
-
-    def to_pandas(self, columns: Optional[Iterable[str]] = None, where: str = "") -> Any:
-        """The same as a frame of pandas, with its nullable types Int8, Int16, Int32 and Int64. No value passes through a float."""
-        from .columns import frame
-
-        return frame(self, columns, where)
-
-    def batches(self, rows: int, columns: Optional[Iterable[str]] = None, where: str = "") -> Iterator[Columns]:
-        """The same in pieces, so that a table is read that has no room in memory as arrays: each piece is what `to_numpy` gives of the next
-        rows, and its `to_pandas()` is a frame.
-
-            for piece in table.batches(1_000_000):
-                print(piece["HITS"].values.max())
-
-        Args:
-            rows: how many rows a piece has; the last one may have fewer.
-            columns, `where`: as of `to_numpy`. They are judged at once.
-
-        Raises:
-            Refused: `NoSuchColumn`, or a fault of the condition.
-            ValueError: `rows` is less than 1.
-        """
-        from .columns import pieces
-
-        return pieces(self, rows, columns, where)
-
-    if TYPE_CHECKING:
-
-        def __arrow_c_stream__(self, requested_schema: object = None) -> object:
-            """The live rows for whatever takes Arrow, as pyarrow.table, polars.DataFrame and duckdb: int8, int16, int32 and int64, each of
-            which may be null. A schema that is asked for may have some of the columns, in any order, as wider integers. The call is there
-            if the module was installed with a C compiler.
-
-            Raises:
-                ValueError: another schema is asked for.
-            """
-
-    else:
-        __arrow_c_stream__ = ArrowStream()
+            opened = self._asked().with_columns(cells.rows, cells.values, cells.valid, _named(batch))
+        return self._of_opened(opened, self._file_room() + _CELL * cells.values[1])
 
     def import_arrow(self: _Self, data: Any, *, batch: Optional[GivenName] = None, progress: Optional[Progress] = None) -> _Self:
         """The table with the rows of whatever gives Arrow's stream, as a table of pyarrow, a frame of polars or another table. Its columns
@@ -487,7 +311,7 @@ class Table:
 
         Args:
             columns: of each column of the table a `ColumnData` as `to_numpy` gives it, an array or masked array of whole numbers, or a list
-                of them with None for a null.
+                of them with None for a null. Lists alone need no numpy.
             batch: the first batch's name, as for `import_csv`.
             progress: what is called with how many rows are in and how many there are, as for `import_csv`.
 
@@ -498,7 +322,27 @@ class Table:
         """
         from .given_columns import with_rows
 
+        arguments.callable_of("progress", progress)
         return with_rows(self, columns, name_of(batch) if batch is not None else None, progress)
+
+    def import_rows(self: _Self, rows: Iterable[Any], *, batch: Optional[GivenName] = None, progress: Optional[Progress] = None) -> _Self:
+        """The table with more rows, each of which is a dict of all columns, or a tuple of as many values; None is a null. Neither numpy nor pandas is
+        needed.
+
+            table = table.import_rows([{"SITE": 1, "HITS": 10}, {"SITE": 2, "HITS": None}])
+
+        Args:
+            rows: the rows, which may come one after another.
+            batch, progress: as of `import_columns`.
+
+        Raises:
+            Refused: as of `import_columns`.
+            ValueError: a row has other columns than the table, or another number of values.
+            TypeError: a row is neither a dict nor a tuple, or a value is no whole number.
+        """
+        from .plain_columns import columns_of
+
+        return self.import_columns(columns_of(rows, self), batch=batch, progress=progress)
 
     def import_frame(self: _Self, frame: Any, *, batch: Optional[GivenName] = None, progress: Optional[Progress] = None) -> _Self:
         """The table with the rows of a frame of pandas, whose columns are the table's, in any order. A column of floats is refused, also one
@@ -507,21 +351,27 @@ class Table:
 
         return self.import_columns(columns_of(frame), batch=batch, progress=progress)
 
-    def delete(self: _Self, condition: str) -> _Self:
+    def delete(self: _Self, condition: str, values: Values = NONE) -> _Self:
         """The table without the rows at which a condition is true: what comes after WHERE in a query.
+
+            table = table.delete("SITE = ? OR HITS IN (?)", [2, [10, 20]])
+
+        Args:
+            condition: the condition.
+            values: a value for each `?` of the condition, as of `query`.
 
         Raises:
             Refused: a fault of the condition with its byte, or of the file.
+            TypeError, ValueError: a value is no whole number, or can't be at its place; or there are more or fewer values than `?`.
         """
-        text = arguments.text_of("condition", condition)
+        text = filled("condition", condition, values)
         with explaining.judged("condition", text, self):
-            return self._made(calls.made(calls.DELETE, 2 * self._length() + _ROOM, self._file, text))
+            return self._made(calls.made(calls.DELETE, 2 * self._length() + _ROOM, self._file, text.text))
 
-    def _delete_part(self, condition: str) -> tuple[int, bytes]:
+    def _delete_part(self, condition: Filled) -> tuple[int, bytes]:
         """How many rows a delete finds, and the file of their deletions alone."""
-        text = arguments.text_of("condition", condition)
-        with explaining.judged("condition", text, self):
-            rows, part = self._asked().delete_part(_ROOM, text)
+        with explaining.judged("condition", condition, self):
+            rows, part = self._asked().delete_part(_ROOM, condition.text)
         return rows, bytes(part)
 
     def _bring(self, offer: calls.Input) -> tuple[int, bytes]:
@@ -542,10 +392,15 @@ class Table:
             Refused: `BadName`; `BadRange` if `last` is before `first`.
             ValueError: `batch` is no name, or a number is no ordinal.
         """
-        name, begin = name_of(batch), _ordinal("first", first)
+        name, begin, is_held = name_of(batch), _ordinal("first", first), arguments.flag_of("held", held)
         end = begin if last is None else _ordinal("last", last)
         rows, room = (name.origin, name.number, begin, end), self._length() + _ROOM
-        file = self._asked().without_held(room, *rows) if arguments.flag_of("held", held) else self._asked().without_rows(room, *rows)
+        try:
+            file = self._asked().without_held(room, *rows) if is_held else self._asked().without_rows(room, *rows)
+        except Refused as refusal:
+            if refusal.number != _BAD_RANGE:
+                raise
+            raise refusal.said_of("last", f"{end} comes before first, which is {begin}") from None
         return self if file is None else self._made(file)
 
     def forget(self: _Self) -> _Self:
@@ -571,7 +426,7 @@ class Table:
             raise ValueError(f"count: a table is spread over 1 to {_SHARES:,} shares, and this is {shares}")
         return [self._made(file) for file in self._asked().spread(self._length() + shares * _FRONT + _ROOM, shares)]
 
-    def merge(self: _Self, *others: Union[Table, Folder]) -> _Self:
+    def merge(self: _Self, *others: Readable) -> _Self:
         """The table that has what all of them hold, in whichever order they come. Of a folder it is what all parts hold.
 
         Raises:
@@ -585,20 +440,6 @@ class Table:
             level = [*pairs, *level[2 * len(pairs) :]]
         return self._made(level[0])
 
-    def summary(self) -> bytes:
-        """What the table holds, in few bytes, for another replica's `offer`."""
-        return calls.given(calls.SUMMARY, self._length() + _ROOM, self._file)
-
-    def offer(self, summary: _Bytes) -> bytes:
-        """What another replica does not have, by its summary: the batches that it does not have, and all deletions.
-
-        Raises:
-            Refused: a fault of the summary or of the file, or `SchemaDiffers`.
-        """
-        held, given = self._file, arguments.bytes_of("summary", summary)
-        with explaining.of_tables(lambda: Schema.of(given).words, self._words), explaining.of_input(given):
-            return calls.given(calls.OFFER, self._length() + _ROOM, held, given)
-
     def apply(self: _Self, offer: _Bytes) -> _Self:
         """The table with what an offer brings. A file's bytes are an offer too.
 
@@ -607,6 +448,19 @@ class Table:
         """
         offered = arguments.bytes_of("offer", offer)
         return self._applied(offered)
+
+    def edit(self) -> Edit:
+        """This table to be changed in its place: then a change costs what it brings, and not a copy of the table. This table stays as it is.
+
+            edit = table.edit()
+            edit.import_rows([{"SITE": 1, "HITS": 10}])
+            edit.delete("HITS < 5")
+            table = edit.table()
+
+        Raises:
+            Refused: a fault of the file.
+        """
+        return Edit(self)
 
     def close(self) -> None:
         """Lets the file go. A question that another thread asks meanwhile is answered."""
@@ -638,7 +492,7 @@ class Table:
 
     def _applied(self: _Self, offer: calls.Input) -> _Self:
         """The table with what an offer brings."""
-        with explaining.of_tables(lambda: _words_of(offer), self._words), explaining.of_input(offer):
+        with explaining.of_tables(lambda: words_of(offer), self._words), explaining.of_input(offer):
             return self._made(calls.made(calls.APPLY, self._length() + calls.length_of(offer) + _ROOM, self._file, offer))
 
     def _asked(self) -> calls.Opened:
@@ -678,12 +532,6 @@ class Table:
     def _view(self) -> memoryview:
         """The file's bytes, without a copy."""
         return calls.view_of(self._file)
-
-    def __len__(self) -> int:
-        return _whole(self.query(f"SELECT COUNT(*) FROM {self.name}")[0][0])
-
-    def __bool__(self) -> bool:
-        return True
 
     def __reduce__(self) -> tuple[object, ...]:
         return type(self).from_bytes, (self.to_bytes(),)
@@ -747,11 +595,11 @@ def _judged(argument: str, word: str) -> str:
 
 def _joined(one: calls.Input, other: calls.Input) -> calls.Input:
     """The file of what two hold."""
-    with explaining.of_tables(lambda: _words_of(other), lambda: _words_of(one)):
+    with explaining.of_tables(lambda: words_of(other), lambda: words_of(one)):
         return calls.made(calls.MERGE, calls.length_of(one) + calls.length_of(other) + _ROOM, one, other)
 
 
-def _words_of(file: calls.Input) -> bytes:
+def words_of(file: calls.Input) -> bytes:
     """The words of the table of a file or an offer."""
     return Schema.of(bytes(calls.view_of(file)[:_FRONT])).words
 
@@ -769,6 +617,5 @@ def _ordinal(name: str, given: object) -> int:
     return ordinal
 
 
-def _whole(value: Value) -> int:
-    assert isinstance(value, int)
-    return value
+# An edit is of a table, and the hint of `Table.edit` is to be read: so it comes once the table is here.
+from .editing import Edit  # noqa: E402

@@ -12,6 +12,7 @@ import unittest.mock
 from typing import Any, Dict, List, Optional, Tuple, Type
 
 from lanes import Folder, Refused, Table, pieces
+from lanes.words import in_python
 
 #: The program: the script runs the one that was built here or the released one.
 PROGRAM = os.environ.get("LANES_PROGRAM", os.fspath(pathlib.Path(__file__).resolve().parent.parent.parent / "lanes"))
@@ -100,7 +101,7 @@ class Imports(Programs):
                         call(text, batch="1.1", **given)
                     found = caught.exception
                     self.assertEqual(" ".join([found.name, *map(str, found.place)]), said.splitlines()[0].removeprefix("refused "))
-                    self.assertIn(found.sentence, said.splitlines()[1])
+                    self.assertIn(found.sentence, in_python(said.splitlines()[1]))
                     self.assertEqual(found.subject, "columns" if found.name == "NoSuchColumn" else "")
 
     def test_wrong_arguments_are_named(self) -> None:
@@ -192,7 +193,7 @@ class Dumps(Programs):
                 self.table.dump(**given)
             found, (_, said) = caught.exception, self.program("dump", *options, "t")
             self.assertEqual((" ".join([found.name, *map(str, found.place)]), found.subject), (said.splitlines()[0].removeprefix("refused "), subject))
-            self.assertIn(found.sentence, said.splitlines()[1])
+            self.assertIn(found.sentence, in_python(said.splitlines()[1]))
 
     def test_wrong_arguments_are_named(self) -> None:
         wrong: List[Tuple[Dict[str, Any], Type[Exception], str]] = [

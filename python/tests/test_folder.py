@@ -79,6 +79,12 @@ class Calls(InFolder):
             self.assertEqual(self.folder.apply(self.empty.delete_rows("1.1", first, last).to_bytes()), 0)
             self.assertEqual(len(self.folder.read()), rows)
 
+    def test_rows_of_a_batch_are_not_deleted_where_the_next_batch_is(self) -> None:
+        self.folder.import_csv("1,10\n", heading=False, batch="5.2")
+        before = self.folder.parts()
+        self.assertIs(self.folder.delete_rows("5.1", 0, held=True), False)
+        self.assertEqual(self.folder.parts(), before)
+
     def test_rows_of_a_batch_are_deleted_only_where_it_is(self) -> None:
         self.folder.import_csv("1,10\n2,20\n", heading=False, batch="1.1")
         before = self.folder.parts()

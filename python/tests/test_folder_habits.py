@@ -2,14 +2,17 @@
 
 from __future__ import annotations
 
+import fcntl
 import os
 import pathlib
+import pickle
+import stat
 import unittest
 import unittest.mock
 import warnings
 
-from folders import InFolder, fresh
-from lanes import Folder, Refused, calls, part_folder
+from folders import InFolder, Syncs, fresh
+from lanes import Busy, Folder, Refused, calls, folder_driver, owned, part_folder, waiting
 
 
 class Names(InFolder):
@@ -24,15 +27,71 @@ class Names(InFolder):
         self.assertEqual(self.folder.pack(everything=True)[0], 1)
         self.assertEqual((len(self.folder), len(os.listdir(self.path))), (2, 3))
 
-    def test_a_pack_chooses_no_part_that_is_no_file(self) -> None:
+    def test_a_pack_chooses_no_folder_of_a_part_s_name(self) -> None:
         self.folder.import_csv("1,1\n", heading=False, batch="1.1")
         path = os.path.join(self.path, "0" * 32 + ".lanes")
         listed = part_folder.listed(self.path)
-        for make in os.mkfifo, os.mkdir:
-            make(path)
-            with unittest.mock.patch.object(part_folder, "listed", lambda _: [os.path.basename(path), *listed]):
-                self.assertEqual([name for _, name in self.folder._sized()], sorted(listed, key=lambda name: os.path.getsize(os.path.join(self.path, name))))
-            (os.unlink if make is os.mkfifo else os.rmdir)(path)
+        os.mkdir(path)
+        with unittest.mock.patch.object(part_folder, "listed", lambda _: [os.path.basename(path), *listed]):
+            self.assertEqual([name for _, name in self.folder._sized()], sorted(listed, key=lambda name: os.path.getsize(os.path.join(self.path, name))))
+
+    def test_a_pipe_of_a_part_s_name_is_named_by_each_call(self) -> None:
+        self.folder.import_csv("1,1\n", heading=False, batch="1.1")
+        path = os.path.join(self.path, "0" * 32 + ".lanes")
+        os.mkfifo(path)
+        for act in self.folder.pack, lambda: self.folder.pack(everything=True), self.folder.read, self.folder.forget:
+            with self.assertRaisesRegex(OSError, "neither a file nor a folder") as caught:
+                act()
+            self.assertEqual((caught.exception.filename, len(os.listdir(self.path))), (path, 3))
+
+    def test_a_part_has_the_mode_of_the_part_of_least_name(self) -> None:
+        """Without a part it has the mode of a new file."""
+        before = os.umask(0o077)
+        self.addCleanup(os.umask, before)
+        self.folder.import_csv("1,1\n", heading=False, batch="1.1")
+        least = os.path.join(self.path, self.folder.parts()[0])
+        for mode in 0o644, 0o660, 0o600:
+            os.chmod(least, mode)
+            for act in lambda: self.folder.import_csv("2,2\n", heading=False), lambda: self.folder.delete("A = 2"):
+                known = self.folder.parts()
+                act()
+                least, new = os.path.join(self.path, min(self.folder.parts())), [name for name in self.folder.parts() if name not in known]
+                self.assertEqual([stat.S_IMODE(os.stat(os.path.join(self.path, name)).st_mode) for name in new], [mode])
+        self.assertEqual(self.folder.pack(everything=True)[0], 1)
+        self.assertEqual(stat.S_IMODE(os.stat(os.path.join(self.path, self.folder.parts()[0])).st_mode), 0o600)
+        os.umask(0o027)
+        first = Folder.of(os.path.join(self.room, "new"), self.empty)
+        self.assertEqual(stat.S_IMODE(os.stat(os.path.join(first.path, first.parts()[0])).st_mode), 0o640)
+
+    def test_a_new_folder_clears_what_a_crash_left_of_its_name(self) -> None:
+        """But not what another process has, what has other files, and what is of another name."""
+        made = {digit: os.path.join(self.room, f".new.lanes-new-{digit * 16}") for digit in "0123"}
+        made["other"] = os.path.join(self.room, ".newer.lanes-new-" + "0" * 16)
+        for path in made.values():
+            os.mkdir(path)
+        for path, name in (made["0"], "0" * 32 + ".lanes"), (made["0"], ".part-" + "0" * 16), (made["2"], "mine.txt"):
+            pathlib.Path(path, name).touch()
+        with owned.OpenFile() as held:
+            fcntl.flock(held.open_folder(made["3"]), fcntl.LOCK_EX)
+            Folder.of(os.path.join(self.room, "new"), self.empty)
+        self.assertEqual(sorted(os.listdir(self.room)), sorted([*(os.path.basename(made[key]) for key in ("2", "3", "other")), "new", "site"]))
+
+    def test_a_folder_is_the_one_that_it_was_when_the_process_changes_its_own(self) -> None:
+        other, before = os.path.join(self.room, "other"), os.getcwd()
+        os.mkdir(other)
+        Folder.of(os.path.join(other, "site"), self.empty)
+        self.addCleanup(os.chdir, before)
+        os.chdir(self.room)
+        relative = Folder("site")
+        os.chdir(other)
+        relative.import_csv("1,1\n", heading=False)
+        self.assertEqual((len(self.folder), len(Folder("site")), relative, relative != Folder("site")), (1, 0, self.folder, True))
+        self.assertEqual(hash(pickle.loads(pickle.dumps(relative))), hash(self.folder))
+        gone = os.path.join(self.room, "gone")
+        os.mkdir(gone)
+        os.chdir(gone)
+        os.rmdir(gone)
+        self.assertEqual(Folder(self.path), relative)
 
     def test_a_folder_is_not_made_over_a_link_that_leads_nowhere(self) -> None:
         path = os.path.join(self.room, "link")
@@ -146,22 +205,24 @@ class Told(InFolder):
                 self.assertEqual(self.folder.delete("A = 9"), 0)
             self.assertEqual([os.path.basename(str(warning.message).split(": ")[0]) for warning in warned], [part])
 
-    def test_a_part_that_can_not_be_read_after_one_that_can_not_be_synced_is_an_error(self) -> None:
+    def test_the_first_part_that_can_not_be_synced_ends_the_keep(self) -> None:
+        for number in 1, 2:
+            self.folder.import_csv("1,1\n", heading=False, batch=(number, 1))
+        syncs = Syncs(fails_at=1)
+        with warnings.catch_warnings(record=True) as warned:
+            warnings.simplefilter("always")
+            synced = syncs.of(lambda: self.folder.delete("A = 9"))
+        self.assertEqual((synced, len(warned)), (self.folder.parts()[:1], 1))
+        self.assertIn(self.folder.parts()[0], str(warned[0].message))
+
+    def test_a_put_whose_part_comes_and_goes_is_tried_for_ten_seconds(self) -> None:
+        with unittest.mock.patch.object(folder_driver.Driver, "follow", lambda *_: folder_driver.GONE), unittest.mock.patch.object(waiting, "LONGEST", 0.05):
+            with self.assertRaises(Busy):
+                part_folder.put(self.path, self.empty.to_bytes())
+
+    def test_offers_of_nothing_keep_no_part(self) -> None:
         self.folder.import_csv("1,1\n", heading=False, batch="1.1")
-        first, second = self.folder.parts()
-        syncs = [OSError(5, "a fault")]
-
-        def spoiled(opened: int) -> None:
-            if syncs:
-                os.unlink(os.path.join(self.path, second))
-                os.symlink("/nowhere", os.path.join(self.path, second))
-                raise syncs.pop()
-
-        with fresh(), unittest.mock.patch.object(os, "fsync", spoiled), warnings.catch_warnings():
-            warnings.simplefilter("ignore")
-            with self.assertRaises(FileNotFoundError) as caught:
-                self.folder.delete("A = 9")
-        self.assertEqual(caught.exception.filename, os.path.join(self.path, second))
+        self.assertEqual(Syncs().of(lambda: self.folder.apply(self.empty.to_bytes(), self.empty.to_bytes())), [])
 
 
 if __name__ == "__main__":

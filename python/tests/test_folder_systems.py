@@ -12,6 +12,7 @@ import signal
 import socket
 import unittest
 import unittest.mock
+import warnings
 from typing import Callable, Dict, Iterator
 
 from folders import InFolder, Syncs, fresh
@@ -197,6 +198,9 @@ class Syncing(InFolder):
                 with contextlib.suppress(RuntimeWarning), self.assertRaisesRegex(OSError, "could not be synced: Input/output error, at an earlier sync by this process"):
                     act()
                 self.assertLessEqual({*before}, {*self.folder.parts()})
+            with warnings.catch_warnings():
+                warnings.simplefilter("error")  # another folder of the same disk is synced
+                self.assertEqual(other.import_csv("7,7\n", heading=False), 1)
             self.assertEqual(Syncs().of(lambda: other.import_csv("1,1\n", heading=False))[1:], ["other"])
         with fresh():
             self.assertEqual(self.folder.pack(everything=True)[0], 1)
@@ -235,15 +239,13 @@ class NoFiles(Failing):
             for make in os.mkfifo, self.socket, lambda path: os.symlink("/dev/null", path):
                 make(path)
                 acts = {**self.readings(), **self.additions(), "a forget": self.folder.forget, "a length": lambda: len(self.folder), "a summary": self.folder.summary}
+                acts["a pack"], acts["a pack of all"] = self.folder.pack, lambda: self.folder.pack(everything=True)
                 del acts["parts"]
                 for name, act in acts.items():
                     with self.subTest(name), self.soon(), self.assertRaises(OSError) as caught:
                         act()
                     self.assertIn(caught.exception.errno, (errno.EINVAL, errno.ENXIO))
                     self.assertEqual(caught.exception.filename, path)
-                with self.soon():
-                    self.folder.pack(everything=True)
-                    self.assertEqual((len(self.folder.parts()), os.path.basename(path) in self.folder.parts()), (2, True))
                 os.unlink(path)
         self.assertEqual(len(self.folder), 1)
 

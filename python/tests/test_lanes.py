@@ -45,13 +45,13 @@ class Openings:
 
     def __init__(self, case: unittest.TestCase) -> None:
         self.count = 0
-        whole = Opened.__init__
+        whole = Opened.of_file
 
-        def counted(opened: Opened, file: object) -> None:
+        def counted(file: calls.Input) -> Opened:
             self.count += 1
-            whole(opened, file)  # type: ignore[arg-type]
+            return whole(file)
 
-        patch = unittest.mock.patch.object(Opened, "__init__", counted)
+        patch = unittest.mock.patch.object(Opened, "of_file", counted)
         patch.start()
         case.addCleanup(patch.stop)
 
@@ -198,11 +198,12 @@ class Queries(unittest.TestCase):
             with unittest.mock.patch.object(calls, "_SHARE", wraps=calls._SHARE) as share, unittest.mock.patch.object(calls, "_CLOSE", wraps=calls._CLOSE) as close:
                 with contextlib.suppress(Refused):
                     table.query(sql)
-            self.assertEqual((share.call_count, close.call_count), (1, 1))
+            # The second one, which does nothing, is that of an owner who is gone.
+            self.assertEqual((share.call_count, close.call_count), (1, 2))
 
     def test_a_closed_handle_is_told_by_name(self) -> None:
         opened = Opened.of_file(counts(FIRST).to_bytes())
-        opened.__del__()
+        opened.close_now()
         with self.assertRaises(Refused) as caught:
             opened.answer(b"SELECT SUM(HITS) FROM COUNTS")
         self.assertEqual((caught.exception.number, caught.exception.name, caught.exception.place), (39, "NotOpen", ()))
@@ -323,6 +324,36 @@ class Messages(unittest.TestCase):
         self.assertEqual(caught.exception.name, "BadMagic")
 
 
+#: Opens a file a thousand times while a thread copies over it, shortens it and replaces it.
+OVERWRITTEN = """
+import os, sys, threading, lanes
+path, opened, refused, ends = sys.argv[1], 0, 0, threading.Event()
+whole = open(path, "rb").read()
+def change():
+    while not ends.is_set():
+        with open(path, "r+b") as file:
+            file.write(whole[:9000])
+            file.truncate(5000)
+            file.write(whole[9000:])
+        with open(path + ".new", "wb") as file:
+            file.write(whole)
+        os.replace(path + ".new", path)
+thread = threading.Thread(target=change)
+thread.start()
+try:
+    for _ in range(1000):
+        try:
+            table = lanes.Table.open(path)
+            opened += len(table.to_bytes()) > 0
+        except lanes.Refused:
+            refused += 1
+finally:
+    ends.set()
+    thread.join()
+print(opened + refused, opened)
+"""
+
+
 class Files(unittest.TestCase):
     def setUp(self) -> None:
         self.folder = tempfile.TemporaryDirectory()
@@ -355,6 +386,12 @@ class Files(unittest.TestCase):
         counts(SECOND).save(self.path)
         self.assertEqual(opened, counts(FIRST))
         self.assertEqual(Table.open(pathlib.Path(self.path)), counts(SECOND))
+
+    def test_a_file_may_be_overwritten_shortened_and_replaced_while_it_is_opened(self) -> None:
+        """What is opened is a table all the same, or refused; a process that had mapped the file would be killed."""
+        Table.create("T", {"A": "BIGINT"}).import_csv("A\n" + "".join(f"{random.getrandbits(62)}\n" for _ in range(4_000))).save(self.path)
+        done = subprocess.run([sys.executable, "-c", OVERWRITTEN, self.path], capture_output=True, text=True, env={**os.environ, "PYTHONPATH": os.fspath(TOP / "python")})
+        self.assertEqual((done.returncode, done.stderr, done.stdout.split()[0]), (0, "", "1000"), done)
 
     def test_what_is_no_file_is_refused_when_it_is_opened(self) -> None:
         for content, name in [(b"", "Truncated"), (b"no file", "BadMagic"), (counts(FIRST).to_bytes()[:-1], "Truncated")]:
@@ -496,6 +533,11 @@ class Notebooks(unittest.TestCase):
 
 
 class Module(unittest.TestCase):
+    def test_each_process_draws_the_key_of_its_queries(self) -> None:
+        code = "from lanes import calls; print(calls._KEY)"
+        drawn = {subprocess.run([sys.executable, "-c", code], check=True, stdout=subprocess.PIPE).stdout for _ in range(3)}
+        self.assertEqual(len({*drawn, f"{calls._KEY}\n".encode()}), 4)
+
     def test_its_version_is_the_programs(self) -> None:
         source = (TOP / "crates" / "command_line" / "src" / "commands.rt").read_text()
         self.assertIn(f'const VERSION: &str = "{lanes.version()}";', source)

@@ -61,6 +61,12 @@ class Pieces(unittest.TestCase):
         EMPTY.import_csv("1,2\n", heading=False, progress=lambda done, whole: told.append((done, whole)))
         self.assertEqual(told[3:], [(4, 4)])
 
+    def test_progress_is_not_told_of_a_piece_that_is_refused(self) -> None:
+        told: List[Tuple[int, int]] = []
+        with cut(65_536), self.assertRaises(Refused):
+            EMPTY.import_csv(HEADED + "1,1000\n", progress=lambda done, whole: told.append((done, whole)))
+        self.assertEqual([done < whole for done, whole in told], [True, True])
+
     def test_what_progress_raises_ends_the_import(self) -> None:
         def stop(done: int, whole: int) -> None:
             raise KeyboardInterrupt
@@ -94,6 +100,12 @@ class Pieces(unittest.TestCase):
             with self.assertRaises(Refused) as caught:
                 EMPTY.import_csv(HEADED, batch=(1, last - 1))
             self.assertEqual(caught.exception.name, "NumbersSpent")
+            wide = {"A": [1] * ROWS, "B": [1000, *[1] * (ROWS - 1)]}  # of a type that the column does not have
+            with self.assertRaises(Refused) as caught:
+                EMPTY.import_columns(wide, batch=(1, last - 1))
+            self.assertEqual(caught.exception.name, "NumbersSpent")
+            with unittest.mock.patch("secrets.randbelow", lambda most: most - 1):
+                self.assertEqual(len(EMPTY.import_csv(HEADED)), ROWS)
             drawn = EMPTY.import_csv(HEADED)
         self.assertNotEqual(drawn.import_csv(HEADED), drawn)
 

@@ -14,14 +14,37 @@ import tempfile
 import threading
 import time
 import unittest
+from typing import Callable
 from unittest import mock
 
-from lanes import Busy, replacing, waiting
+from lanes import Busy, Table, replacing, update, waiting
 
 #: The folder of the module.
 TOP = pathlib.Path(replacing.__file__).resolve().parent.parent
 
 CALLS = "openat,flock,ftruncate,fchmod,write,fsync,rename,renameat,renameat2,unlink,unlinkat"
+
+
+def as_nobody(act: Callable[[], object]) -> str:
+    """What a call raises in a child that is no root, and of which file."""
+    reading, writing = os.pipe()
+    child = os.fork()
+    if not child:
+        try:
+            if os.getuid() == 0:
+                os.setgroups([])
+                os.setgid(65534)
+                os.setuid(65534)
+            os.write(writing, repr(act()).encode())
+        except BaseException as fault:
+            os.write(writing, f"{type(fault).__name__} {getattr(fault, 'filename', fault)}".encode())
+        finally:
+            os._exit(0)
+    os.close(writing)
+    with open(reading) as told:
+        said = told.read()
+    os.waitpid(child, 0)
+    return said
 
 
 class Replaced(unittest.TestCase):
@@ -59,6 +82,21 @@ class Replaced(unittest.TestCase):
             replacing.replace(self.path, b"new")
             self.assertEqual(stat.S_IMODE(os.stat(self.path).st_mode), mode)
             os.remove(self.path)
+
+    def test_a_file_that_may_not_be_written_is_not_replaced(self) -> None:
+        """By a user who may write into its folder."""
+        self.put()
+        os.chmod(self.path, 0o444)
+        os.chmod(self.folder, 0o777)
+        table = Table.create("T", {"A": "INTEGER"})
+        acts = {
+            "save": lambda: table.save(self.path),
+            "dump": lambda: table.dump(path=self.path),
+            "update": lambda: update(self.path).__enter__(),
+        }
+        for name, act in acts.items():
+            self.assertEqual(as_nobody(act), f"PermissionError {self.path}", name)
+        self.assertEqual((self.get(), os.listdir(self.folder)), (b"old", ["t"]))
 
     def test_a_symbolic_link_stays_one(self) -> None:
         self.put()

@@ -260,16 +260,17 @@ class Lenience(unittest.TestCase):
             path = pathlib.Path(room, "monday")
             path.write_text("A\n1\n")
             self.assertEqual(empty.import_csv(path, batch="1.1"), wanted)
-            for given in [str(path), os.fsencode(path), "monday.csv", "a/b.TSV", "x.txt", "x.csv.gz", b"monday.csv"]:
+            self.assertEqual(empty.import_csv(str(path), batch="1.1"), wanted)
+            for given in [os.fsencode(path), b"monday.csv"]:
                 with self.subTest(given=given), self.assertRaises(ValueError) as caught:
-                    empty.import_csv(given)  # type: ignore[arg-type]
-                self.assertIn(repr(os.fsdecode(given)), str(caught.exception))  # type: ignore[type-var]
-                self.assertIn("pathlib.Path", str(caught.exception))
+                    empty.import_csv(given)
+                self.assertIn(repr(os.fsdecode(given)), str(caught.exception))
                 self.assertNotIsInstance(caught.exception, Refused)
-            with self.assertRaises(FileNotFoundError):
-                empty.import_csv(pathlib.Path(room, "none.csv"))
+            for name in [pathlib.Path(room, "none.csv"), "monday.csv", "a/b.TSV", "x.txt", "x.csv.gz", "x*.csv", ["A", "1"]]:
+                with self.subTest(name=name), self.assertRaises(FileNotFoundError):
+                    empty.import_csv(name)
         self.assertEqual(empty.import_csv(f"{'1' * 5}", heading=False, batch="1.1"), empty.import_csv("11111\n", heading=False, batch="1.1"))
-        for csv in [5, [1, 2], None, ["A", "1"], {"A": 1}]:
+        for csv in [5, [1, 2], None, {"A": 1}]:
             with self.subTest(csv=csv), self.assertRaisesRegex(TypeError, "a text of comma-separated values"):
                 empty.import_csv(csv)  # type: ignore[arg-type]
 
