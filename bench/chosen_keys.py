@@ -1,39 +1,46 @@
 #!/usr/bin/env python3
-"""Times queries over keys that were chosen so that their hashes collide under the key that releases up to 0.9.0 had in each process, and
-over as many random keys, and prints a table.
+"""Times queries over keys that were chosen so that their hashes collide under the fixed key, which a table of the library has that was given
+none, and over as many random keys, and prints a table.
 
     python3 bench/chosen_keys.py [--program PROGRAM] [--pairs N] [--keys N] [--runs N]
 
 A key of two columns is found by a formula: whatever the first number is, the second one makes all 64 bits of the hash equal. Keys of one
 column, and values under DISTINCT, are tried one after another by a program in C (cc), some 500,000 for each that is found. The others have
 a plan that needs no key: steps of a power of two, and a square. Times are the processor's, less those of a cheap query: the least of a
-few runs. `combine` and `finish` are of two partial answers of the same keys.
+few runs. `combine` and `finish` are of two partial answers of the same keys. tests/answers and tests/ecosystem take their chosen keys from here.
 """
 import argparse, os, pathlib, random, subprocess, sys, tempfile
 
 TOP = pathlib.Path(__file__).resolve().parent.parent
 WORD = 2**64 - 1
 
-#: The library's fold: the state that it begins with, and its multiplier.
+#: The library's fold: the state that it begins with, and its multiplier, which is the second word of the fixed key too. The first one is 0.
 START, MULTIPLIER = 0x243F_6A88_85A3_08D3, 0x9E37_79B9_7F4A_7C15
+
+#: A query that groups by two columns.
+BY_PAIR = "SELECT A,B,COUNT(*) FROM T GROUP BY A,B"
 
 FINDER = r"""
 #include <inttypes.h>
 #include <stdio.h>
 #include <stdlib.h>
 
+static uint64_t folded(uint64_t a, uint64_t b) {
+    unsigned __int128 product = (unsigned __int128)a * b;
+    return (uint64_t)product ^ (uint64_t)(product >> 64);
+}
+
 /* Prints `count` numbers from 1 on at which a table of up to 18,432 entries looks in the same place, and sees the same tag. */
 int main(int argc, char **argv) {
-    uint64_t state = strtoull(argv[1], 0, 10), factor = strtoull(argv[2], 0, 10), count = strtoull(argv[3], 0, 10);
+    uint64_t state = strtoull(argv[1], 0, 10), factor = strtoull(argv[2], 0, 10), last = strtoull(argv[3], 0, 10), count = strtoull(argv[4], 0, 10);
     for (uint64_t value = 1; count; value++) {
-        unsigned __int128 product = (unsigned __int128)(state ^ value) * factor;
-        uint64_t hash = (uint64_t)product ^ (uint64_t)(product >> 64);
+        uint64_t hash = folded(folded(state ^ value, factor), last);
         if (((hash ^ hash >> 32) & 0xff0007ff) == 0x3a000123) {
             printf("%" PRIu64 "\n", value);
             count--;
         }
     }
-    return argc != 4;
+    return argc != 5;
 }
 """
 
@@ -53,9 +60,13 @@ def after_cell(state, cell):
     return folded((state + 16 & WORD) ^ (cell & WORD), MULTIPLIER ^ (cell >> 64 & WORD))
 
 
+#: The state after the first word of the fixed key.
+KEYED = after_word(START, 0)
+
+
 def chosen_pairs(count):
-    """Keys of two columns that have one hash."""
-    dice, pairs, first = random.Random(7), [], after_word(START, 2)
+    """Keys of two columns that have one hash by the fixed key."""
+    dice, pairs, first = random.Random(7), [], KEYED
     while len(pairs) < count:
         a = dice.getrandbits(62)
         b = (after_cell(first, a) + 16 & WORD) ^ 0x0123_4567_89AB_CDEF
@@ -70,7 +81,7 @@ def found_keys(room, state, factor, count):
     source, finder = room / "finder.c", room / "finder"
     source.write_text(FINDER)
     subprocess.run(["cc", "-O2", "-o", finder, source], check=True)
-    done = subprocess.run([finder, str(state), str(factor), str(count)], check=True, stdout=subprocess.PIPE)
+    done = subprocess.run([finder, str(state), str(factor), str(MULTIPLIER), str(count)], check=True, stdout=subprocess.PIPE)
     return [(int(line),) for line in done.stdout.split()]
 
 
@@ -92,15 +103,22 @@ def made(program, room, name, rows):
     return files
 
 
-def seconds(words, out):
-    """How many seconds of the processor a run takes. What it writes goes into a file."""
-    with open(out, "wb") as written:
-        running = subprocess.Popen(words, stdout=written)
+def seconds(words, out, given=os.devnull, env=None):
+    """How many seconds of the processor a run takes, which reads a file as its standard input. What it writes goes into another one."""
+    with open(out, "wb") as written, open(given, "rb") as read:
+        running = subprocess.Popen(words, stdin=read, stdout=written, env=env)
         _, status, used = os.wait4(running.pid, 0)
     running.returncode = os.waitstatus_to_exitcode(status)
     if running.returncode:
         sys.exit(f"{words} ended with status {running.returncode}")
     return used.ru_utime + used.ru_stime
+
+
+def slower(chosen, others, out, runs=3, env=None):
+    """How many times the seconds of another command a command takes, by the least of a few runs of both in turn. Each is its words and the
+    file that it reads."""
+    taken = [[seconds(words, out, given, env) for words, given in (chosen, others)] for _ in range(runs)]
+    return min(first for first, _ in taken) / min(second for _, second in taken)
 
 
 def times(program, room, files, query, runs):
@@ -119,13 +137,12 @@ def times(program, room, files, query, runs):
 
 def plans(room, pairs, keys):
     """What is asked: a name, the query, the keys, and as many random ones."""
-    one = after_word(START, 1) + 16 & WORD
     square = max(int(pairs**0.5), 1)
-    by_pair, by_key, distinct = "SELECT A,B,COUNT(*) FROM T GROUP BY A,B", "SELECT A,COUNT(*) FROM T GROUP BY A", "SELECT COUNT(DISTINCT A) FROM T"
-    yield "chosen", by_pair, chosen_pairs(pairs), random_rows(pairs, 2)
-    yield "chosen", by_key, found_keys(room, one, MULTIPLIER, keys), random_rows(keys, 1)
-    yield "chosen", distinct, found_keys(room, START, MULTIPLIER ^ 16, keys), random_rows(keys, 1)
-    yield "a square", by_pair, [(a << 32, b << 32) for a in range(square) for b in range(square)], random_rows(square * square, 2)
+    by_key, distinct = "SELECT A,COUNT(*) FROM T GROUP BY A", "SELECT COUNT(DISTINCT A) FROM T"
+    yield "chosen", BY_PAIR, chosen_pairs(pairs), random_rows(pairs, 2)
+    yield "chosen", by_key, found_keys(room, KEYED + 16 & WORD, MULTIPLIER, keys), random_rows(keys, 1)
+    yield "chosen", distinct, found_keys(room, KEYED, MULTIPLIER ^ 16, keys), random_rows(keys, 1)
+    yield "a square", BY_PAIR, [(a << 32, b << 32) for a in range(square) for b in range(square)], random_rows(square * square, 2)
     for step in (0, 16, 32, 46):
         yield f"steps of 2^{step}", by_key, [(n << step,) for n in range(keys)], random_rows(keys, 1)
         yield f"steps of 2^{step}", distinct, [(n << step,) for n in range(keys)], random_rows(keys, 1)

@@ -92,12 +92,19 @@ class Sides:
             path.unlink()
         return found
 
-    def answer(self, query, runs):
-        """The least milliseconds of an answer of lanes when the file is open."""
-        times, one = 1, least([self.program, "query", self.file, queries.CHEAP], runs)
-        while times < 4_096 and used([self.program, "query", self.file, queries.CHEAP, *[query] * times])[0] < one + 0.5:
-            times *= 2
-        return 1e3 * (least([self.program, "query", self.file, queries.CHEAP, *[query] * times], runs) - one) / times
+
+def times_of(program, file, query):
+    """How many answers of lanes take half a second when the file is open, at most 4,096."""
+    times, one = 1, least([program, "query", file, queries.CHEAP], 2)
+    while times < 4_096 and used([program, "query", file, queries.CHEAP, *[query] * times])[0] < one + 0.5:
+        times *= 2
+    return times
+
+
+def answer_of(program, file, query, times, runs):
+    """The least milliseconds of an answer of lanes when the file is open, by so many answers."""
+    one = least([program, "query", file, queries.CHEAP], runs)
+    return 1e3 * (least([program, "query", file, queries.CHEAP, *[query] * times], runs) - one) / times
 
 
 def megabytes(path):
@@ -140,7 +147,7 @@ def print_queries(sides, runs):
                     times[side].append(used(words)[0])
         ours, theirs = used(commands["lanes"])[1].split("\n", 1)[1], used(commands["sqlite3"])[1]
         lanes, sqlite, indexed = (1e3 * min(found) for found in times.values())
-        print(f"| {name}, `{query}` | {lanes:.0f} ms | {sides.answer(query, runs):.1f} ms | {sqlite:.0f} ms | {indexed:.0f} ms |{'' if same(ours, theirs) else ' ANSWERS DIFFER'}", flush=True)
+        print(f"| {name}, `{query}` | {lanes:.0f} ms | {answer_of(sides.program, sides.file, query, times_of(sides.program, sides.file, query), runs):.1f} ms | {sqlite:.0f} ms | {indexed:.0f} ms |{'' if same(ours, theirs) else ' ANSWERS DIFFER'}", flush=True)
     grouping = dict(queries.QUERIES)["Q08"]
     print(f"\nPeak memory of Q08: lanes {peak([sides.program, 'query', sides.file, grouping]):.0f} MB, sqlite3 {peak(['sqlite3', sides.base, grouping]):.0f} MB")
 

@@ -1,17 +1,19 @@
 #!/usr/bin/env python3
 """Keeps docs/THEOREM.md true to the code. It lists the definitions on which the page's statements rest, and counts their lines: what a
-reader has to believe. And it compares what the page quotes with the code.
+reader has to believe. And it compares what the page quotes with the code, and each law of the table with the clauses of the calls that the
+row names (docs/laws.py).
 
 The statements are those of the page's table `| Clause | Law | Stated in |`. From the files of its last column the script follows
 imports, file by file: of definitions, and of the types that declared types are made of, with their views. The rows of the headline are
 those whose clause begins in bold, and so are the names of the files that they rest on. It writes the list in docs/THEOREM.md anew; with
 --check it only says by its status whether the page is fresh. It fails in either case if a file of the table isn't there, if a law of the
-table is defined in none of the row's files, or if a quoted statement is not the code's.
+table is defined in none of the row's files or is not what a clause of each call says that the row names for it, or if a quoted statement is
+not the code's.
 """
-import pathlib, re, sys
+import re, sys
 
-TOP = pathlib.Path(__file__).resolve().parent.parent
-CRATES = TOP / "crates"
+from laws import CRATES, TOP, definition, unstated
+
 IMPORT = re.compile(r"^\s*(?:ghost )?use Rattle\.(\w+)\.specs\.([\w.]+?)(?:\.\{| as |\.?[;\s])", re.M)
 TYPE = re.compile(r"^pub (?:enum|struct) (\w+)[^;{]*(?:\{.*?^\}|\([^)]*\);)", re.M | re.S)
 MODEL = re.compile(r"^impl(?:<[^>]*>)? Model for .*?^\}", re.M | re.S)
@@ -35,15 +37,6 @@ def one_line(text):
     return " ".join(text.split())
 
 
-def definition(name, files):
-    """The text of the definition of this name in one of some files, or None."""
-    for file in files:
-        found = re.search(rf"^(?:abbrev |unfoldable )?pub (?:record |data )?{name}\b.*?(?=\n\n|\Z)", file.read_text(), re.M | re.S)
-        if found:
-            return found[0]
-    return None
-
-
 def stated(page):
     """The files of the page's statements, and those of the headline. The script ends here if one isn't there, or a law isn't in them."""
     found, headline = [], []
@@ -53,11 +46,8 @@ def stated(page):
         files = [CRATES / place for place in quoted(places)]
         for file in files:
             file.exists() or sys.exit(f"docs/THEOREM.md: there is no file {file.relative_to(TOP)}, in which `{clause}` is stated")
-        for law in quoted(laws):
-            if law[0].isupper() and not definition(law, files):
-                sys.exit(f"docs/THEOREM.md: {law} is not defined in the files of its row")
-            if law.endswith("()") and not any(re.search(rf"pub fn {law[:-2]}\b", source.read_text()) for source in CRATES.glob("*/src/**/*.rt")):
-                sys.exit(f"docs/THEOREM.md: there is no function {law}")
+        if fault := unstated(laws, files):
+            sys.exit(f"docs/THEOREM.md: in the row of `{clause}`: {fault}")
         found += files
         headline += files if clause.startswith("**") else []
     return found, headline or sys.exit("docs/THEOREM.md: no clause of the table is one of the headline")

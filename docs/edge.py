@@ -11,12 +11,13 @@ import pathlib, re, sys
 CRATES = pathlib.Path(__file__).resolve().parent.parent / "crates"
 # Below these crates it is looked at each source. Those of the protocol and of what commands do by it have no call at all.
 LOOKED_AT = ["folder_system", "lanes", "program_folders", "program_files", "program_changes", "program_failures", "program_inputs", "folder_commands", "folder_parts", "folder_simulation", "folder_model", "folder_protocol", "folder_turns"]
-CALL = re.compile(r"\bfs::[a-z_]+\(|\bOpenOptions::new\(|\.sync_all\(|\.sync_data\(|\.set_len\(|\.try_lock\(|\.try_lock_shared\(")
-CHANGES = re.compile(r"\bfs::(create|write|rename|remove|hard_link|copy|set_)[a-z_]*\(|\bOpenOptions::new\(|\.sync_all\(|\.sync_data\(|\.set_len\(")
+CALL = re.compile(r"\bfs::[a-z_]+\(|\bOpenOptions::new\(|\.sync_all\(|\.sync_data\(|\.set_len\(|\.set_permissions\(|\.try_lock\(|\.try_lock_shared\(")
+CHANGES = re.compile(r"\bfs::(create|write|rename|remove|hard_link|copy|set_)[a-z_]*\(|\bOpenOptions::new\(|\.sync_all\(|\.sync_data\(|\.set_len\(|\.set_permissions\(")
 
 # The calls of the protocol, as SystemFolder makes and notes them.
 IMPLEMENTATION = {
-    "folder_system/src/system.rt": 5,
+    # Six calls, of which one gives a temporary that was just made the mode of the part with the least name: no byte and no name changes.
+    "folder_system/src/system.rt": 6,
     "folder_system/src/listing.rt": 1,
     "folder_system/src/lock.rt": 3,
     "folder_system/src/keeping.rt": 3,
@@ -33,11 +34,12 @@ CHANGING = {
 }
 # Calls that change nothing, on operands and inputs.
 LOOKING = {
+    "folder_system/src/modes.rt": (1, "it asks for the mode of the part with the least name that was listed, which a new part takes"),
     "program_folders/src/packing.rt": (1, "it asks if its operand is a file"),
     "program_inputs/src/home.rt": (2, "it asks if an operand is a folder, and if its name is free"),
     "program_inputs/src/inputs.rt": (1, "it reads inputs"),
     "program_failures/src/failure.rt": (4, "it looks at an operand that was refused, for a sentence"),
-    "lanes/src/merging.rt": (2, "it asks if OUT is one of the inputs"),
+    "lanes/src/merging.rt": (3, "it asks if OUT is one of the inputs, and if OUT is there and has a byte"),
     "program_inputs/src/progress.rt": (1, "it asks for the size of an input, which it says at a terminal"),
 }
 

@@ -3,7 +3,8 @@
 READMEs of tests and benchmarks, and those of crates; of the docstrings of all crates and of Python's; of the comments of include/ and
 c/; and, if a program is named, of its help. A condition is told by `if` or `when`, so the
 word `where` comes in headings alone; and `is had` and `is none` are not said. Nor are they in the texts of the program's messages, in all
-crates. The pages that belong to no crate, and the messages, do not say `stands` for `is`, `lacks`, `beside` and `maybe` either. Code is passed over. It prints each line that is wrong, and the status is then 1.
+crates. The pages that belong to no crate, and the messages, do not say `stands` for `is`, `lacks`, `beside` and `maybe` either, and the pages
+neither `is told`, `want of`, `so many` nor `hasn't a`. Code is passed over. It prints each line that is wrong, and the status is then 1.
 
     docs/english.py [PROGRAM]"""
 import ast, pathlib, re, subprocess, sys
@@ -23,6 +24,7 @@ SCRIPT_WORD = "delete where"
 NOT_SAID = re.compile(r"\b[Ww]here\b|\b(?:is|are|was|were) had\b|\bis none\b")
 # A file stands for what was taken, by the second theorem, and the repository stands alone.
 NOT_SAID_TO_USERS = re.compile(NOT_SAID.pattern + r"|\b[Ss]t(?:ands?|ood)\b(?! for| alone)|\b[Ll]ack(?:s|ed|ing)?\b|\b[Bb]eside\b|\b[Mm]aybe\b")
+NOT_SAID_ON_PAGES = re.compile(NOT_SAID_TO_USERS.pattern + r"|\b(?:is|are) told\b|\b[Ww]ant of\b|\b[Ss]o many\b|\b(?:has|have)n't an?\b")
 
 
 def lines_of(page):
@@ -78,7 +80,7 @@ def pages_of(patterns):
 def main():
     sources = sorted((TOP / "crates").glob("*/src/**/*.rt"))
     speaking = [source for source in sources if "_tests/" not in str(source)]
-    wrong = [fault for page in pages_of(PAGES) for fault in faults_of(page, lines_of(page), NOT_SAID_TO_USERS)]
+    wrong = [fault for page in pages_of(PAGES) for fault in faults_of(page, lines_of(page), NOT_SAID_ON_PAGES)]
     wrong += [fault for page in pages_of(READMES) for fault in faults_of(page, lines_of(page))]
     wrong += [fault for source in sources for fault in faults_of(source, docstrings_of(source))]
     wrong += [fault for source in speaking for fault in faults_of(source, messages_of(source), NOT_SAID_TO_USERS)]

@@ -252,15 +252,15 @@ def packed(drawing, x, y, width):
 
 
 def figures():
-    """What bench/FIGURES.md says of lanes and sqlite3: when it was measured, the sizes in MB, and of each query its name and its milliseconds."""
+    """What bench/FIGURES.md says of lanes and sqlite3: when it was measured and of which versions, the sizes in MB, and of each query its name and its milliseconds."""
     section = (TOP / "bench" / "FIGURES.md").read_text().split("## Compared with sqlite3\n")[1].split("\n## ")[0]
-    day = re.search(r"\d{4}-\d\d-\d\d", section)[0]
+    day, lanes_version, sqlite_version = re.search(r"(\d{4}-\d\d-\d\d), version (\S+) for .*? and sqlite3 (\S+) ", section).groups()
     rows = [[cell.strip() for cell in line.strip("|").split("|")] for line in section.splitlines() if line.startswith("| ")]
     sizes = next((row for row in rows if row[0] == "size"))
     csv, packed_csv = re.search(r"as CSV: ([\d.]+) MB, by gzip -6 ([\d.]+) MB", section).groups()
     lanes, sqlite = (float(re.match(r"[\d.]+", cell)[0]) for cell in sizes[1:])
     queries = [(row[0].split("`")[0].rstrip(", "), float(row[1].split()[0]), float(row[3].split()[0])) for row in rows if re.match(r"Q\d\d", row[0])]
-    return day, [("CSV", float(csv)), ("sqlite3", sqlite), ("CSV by gzip", float(packed_csv)), ("lanes", lanes)], queries
+    return f"{day}, lanes {lanes_version} and sqlite3 {sqlite_version}", [("CSV", float(csv)), ("sqlite3", sqlite), ("CSV by gzip", float(packed_csv)), ("lanes", lanes)], queries
 
 
 #: What each query of bench/queries.py asks, in a few words.
@@ -284,7 +284,7 @@ def bars(drawing, y, rows, most, room, unit):
 
 def speed_and_size():
     """The sizes of a table, and what twelve queries take."""
-    day, sizes, queries = figures()
+    measured, sizes, queries = figures()
     drawing = Drawing("The size of 6,400,000 rows of six columns, and the processor time of twelve queries, with lanes and with sqlite3.")
     drawing.text(24, 30, "6,400,000 rows of six columns: size", 15, INK, bold=True)
     y = bars(drawing, 46, [(name, [(size, BLUE if name == "lanes" else LINE)]) for name, size in sizes], max(size for _, size in sizes), 440, "MB")
@@ -294,7 +294,7 @@ def speed_and_size():
         drawing.text(x + 18, y + 28, name, 12.5, INK)
     most = max(max(ours, theirs) for _, ours, theirs in queries)
     y = bars(drawing, y + 44, [(f"{ASKED[name]} ({name})", [(ours, BLUE), (theirs, LINE)]) for name, ours, theirs in queries], most, 440, "ms")
-    drawing.text(WIDTH / 2, y + 14, f"Measured {day} by bench/sqlite.py on a machine that did other work too. docs/COMPARISON.md says what it means.", 12, SOFT, "middle")
+    drawing.text(WIDTH / 2, y + 14, f"{measured}, by bench/sqlite.py, while the machine did other work too. See docs/COMPARISON.md.", 12, SOFT, "middle")
     return drawing.svg(y + 30)
 
 

@@ -1,7 +1,8 @@
 #!/usr/bin/env python3
 """Checks what pages refer to: that each link to another file leads to one, that docs/GLOSSARY.md names for each word a file that defines
 it, that the map of docs/ARCHITECTURE.md has a row for each crate, below those of all crates that use it, that each crate has the
-public calls of whose clauses pages speak, and that the examples in the READMEs of crates are those that their tests run. It prints what is wrong, and the status is then 1."""
+public calls of whose clauses pages speak, that the examples in the READMEs of crates are those that their tests run, and that the rule on
+names of batches is on its pages in the same words. It prints what is wrong, and the status is then 1."""
 import pathlib, re, sys
 
 TOP = pathlib.Path(__file__).resolve().parent.parent
@@ -79,8 +80,16 @@ def untested_examples():
             yield f"{readme.relative_to(TOP)}: its example isn't the one in {test.relative_to(TOP)}"
 
 
+def other_rules():
+    """The pages on which the rule on names of batches isn't as docs/COMMANDS.md has it."""
+    rule = (TOP / "docs" / "COMMANDS.md").read_text().split("## Names of batches\n\n")[1].split("\n")[0]
+    for page in "README.md", "docs/OPERATIONS.md":
+        if f"\n{rule}\n" not in (TOP / page).read_text():
+            yield f"{page}: the rule on names of batches isn't in the words of docs/COMMANDS.md"
+
+
 def main():
-    wrong = [*dead_links(), *lost_words(), *unmapped_crates(), *lost_calls(), *untested_examples()]
+    wrong = [*dead_links(), *lost_words(), *unmapped_crates(), *lost_calls(), *untested_examples(), *other_rules()]
     print("".join(f"{line}\n" for line in wrong), end="")
     sys.exit(1 if wrong else 0)
 
