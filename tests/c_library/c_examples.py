@@ -79,7 +79,7 @@ def printed_by(example):
 
 
 def each_example_prints_what_it_says(library, room):
-    drivers = {driver.stem for driver in DRIVERS.values()} | {"lanes_sqlite"}
+    drivers = {driver.stem for driver in DRIVERS.values()} | {"lanes_sqlite", "lanes_sqlite_states"}
     examples = [file for file in sorted((TOP / "c").glob("*.c")) if file.stem not in drivers | TRIED_ELSEWHERE]
     assert len(examples) >= 3, examples
     for example in examples:

@@ -1,17 +1,19 @@
 /* The driver of folders, c/lanes_folder_driver.c, in what it seldom meets when it puts parts: a folder that could not be synced once, a sweep that comes
- * before the lock of a temporary, and a file system without hard links. The calls of the system are those of this file. */
+ * before the lock of a temporary, a child that is forked while a lock is held, and a file system without hard links. The calls of the system are those of this file. */
 #define _DEFAULT_SOURCE
 #include "bytes.h"
 
 #include <dirent.h>
 #include <errno.h>
 #include <fcntl.h>
+#include <signal.h>
 #include <stdarg.h>
 #include <stdio.h>
 #include <stdlib.h>
 #include <string.h>
 #include <sys/file.h>
 #include <sys/stat.h>
+#include <sys/wait.h>
 #include <unistd.h>
 
 /* What the calls meet. */
@@ -21,7 +23,32 @@ static struct {
     int swept;       /* how a sweep meets the next temporary: 1: has its lock, 2: has removed it, 3: and another file has its name; or 0 */
     int lock_fault;  /* the error of each lock of a file, or 0 */
     int lacks_memory;
+    int interrupts; /* how many writes a signal interrupts */
+    int stays;     /* whether a sweep that has a temporary does not end */
+    int slept;     /* how often the driver has slept */
+    int is_forked; /* whether a child is forked once a lock is had, which lives on */
 } met;
+
+/* The children that live. */
+static pid_t children[64];
+static int forked;
+
+/* Forks a child, as another thread may at any moment. It has all descriptors, and does nothing. */
+static void fork_one(void) {
+    pid_t child = fork();
+    if (!child) {
+        alarm(60);
+        for (;;) pause();
+    }
+    children[forked++] = child;
+}
+
+static void end_children(void) {
+    while (forked) {
+        kill(children[--forked], SIGKILL);
+        waitpid(children[forked], NULL, 0);
+    }
+}
 
 static char temporary_of[64];
 static int folder_of_temporary, passed, not_passed;
@@ -60,13 +87,29 @@ static int trying_openat(int folder, const char *name, int flags, ...) {
 }
 
 static int trying_flock(int file, int kind) {
+    if (kind == LOCK_UN) return flock(file, kind);
     int swept = is_folder(file) ? 0 : met.swept;
     if (!is_folder(file) && met.lock_fault) return errno = met.lock_fault, -1;
     if (swept) met.swept = 0;
     if (swept == 1) return errno = EWOULDBLOCK, -1;
     if (swept) unlinkat(folder_of_temporary, temporary_of, 0);
     if (swept == 3) close(openat(folder_of_temporary, temporary_of, O_WRONLY | O_CREAT, 0666));
-    return flock(file, kind);
+    int fault = flock(file, kind);
+    if (!fault && met.is_forked) fork_one();
+    return fault;
+}
+
+static ssize_t trying_write(int file, const void *bytes, size_t length) {
+    if (met.interrupts && met.interrupts--) return errno = EINTR, -1;
+    return write(file, bytes, length);
+}
+
+/* While the driver sleeps, a sweep removes what it has. */
+static int trying_usleep(useconds_t time) {
+    (void)time;
+    met.slept++;
+    if (!met.stays) unlinkat(folder_of_temporary, temporary_of, 0);
+    return 0;
 }
 
 static void *trying_malloc(size_t size) { return met.lacks_memory ? NULL : malloc(size); }
@@ -76,6 +119,8 @@ static void *trying_malloc(size_t size) { return met.lacks_memory ? NULL : mallo
 #define flock trying_flock
 #define malloc trying_malloc
 #define openat trying_openat
+#define usleep trying_usleep
+#define write trying_write
 #undef _DEFAULT_SOURCE
 #include "lanes_folder_driver.c"
 #undef fsync
@@ -83,6 +128,8 @@ static void *trying_malloc(size_t size) { return met.lacks_memory ? NULL : mallo
 #undef flock
 #undef malloc
 #undef openat
+#undef usleep
+#undef write
 
 /* Puts these bytes; what it came to, or the number of a refusal and 100, or and the error's 1000. */
 static uint64_t put(const char *folder, const char *bytes) {
@@ -154,17 +201,85 @@ static void a_folder_that_could_not_be_synced_once_stays_so(void) {
     __atomic_store_n(&unsynced_all, 0, __ATOMIC_SEQ_CST);
 }
 
-static void a_temporary_that_a_sweep_has_is_not_ours(void) {
+static void a_put_whose_temporary_was_swept_begins_anew(void) {
+    static const char *const parts[] = {"one", "two", "three"};
     const char *folder = new_folder();
     for (int swept = 1; swept < 4; swept++) {
         met.swept = swept;
-        expect(put(folder, "one") == 1000 + EEXIST, "it is to be begun anew");
-        char path[4200];
-        snprintf(path, sizeof path, "%s/%s", folder, temporary_of);
-        if (swept == 3) unlink(path);
-        expect(count_of(folder) == 0, "and nothing is left");
+        met.slept = 0;
+        expect(put(folder, parts[swept - 1]) == LANES_ON_DISK && met.slept == 1, "it is made anew");
+        expect(count_of(folder) == swept, "the parts alone are there");
     }
-    expect(put(folder, "one") == LANES_ON_DISK && count_of(folder) == 1, "a part");
+    met.swept = met.stays = 1;
+    met.slept = 0;
+    expect(put(folder, "four") == 1000 + EEXIST && met.slept == 1000 && count_of(folder) == 3, "a sweep that does not end is told");
+    met.stays = 0;
+}
+
+static void a_write_that_is_interrupted_is_made_again(void) {
+    const char *folder = new_folder();
+    met.interrupts = 3;
+    expect(put(folder, "one") == LANES_ON_DISK && !met.interrupts && count_of(folder) == 1, "a part");
+}
+
+static const char *path_in(const char *folder, const char *name) {
+    static char path[4200];
+    snprintf(path, sizeof path, "%s/%s", folder, name);
+    return path;
+}
+
+static unsigned mode_of(const char *path) {
+    struct stat found;
+    return stat(path, &found) ? 0 : found.st_mode & 07777u;
+}
+
+static void a_part_has_the_mode_of_the_part_of_least_name(void) {
+    static const char *const parts[] = {"one", "two", "three", "four", "five"};
+    const char *folder = new_folder(), *least = parts[0];
+    mode_t before = umask(077);
+    expect(put(folder, parts[0]) == LANES_ON_DISK && mode_of(path_in(folder, name_of(parts[0]))) == 0600, "with no part the mode is that of the umask");
+    expect(!mkdir(path_in(folder, "00000000000000000000000000000000.lanes"), 0777), "a folder");
+    expect(!mkfifo(path_in(folder, "00000000000000000000000000000001.lanes"), 0777), "a pipe");
+    for (unsigned i = 1; i < 5; i++) {
+        lanes_part_named kept;
+        memcpy(kept, name_of(least), sizeof kept);
+        expect(!chmod(path_in(folder, kept), 0640 + i % 4), "a mode");
+        expect(put(folder, parts[i]) == LANES_ON_DISK && mode_of(path_in(folder, name_of(parts[i]))) == 0640 + i % 4, "the mode of the part of least name");
+        if (strcmp(name_of(parts[i]), kept) < 0) least = parts[i];
+    }
+    umask(before);
+}
+
+/* A file that is open and locked, as that of a process that puts a part. */
+static int held_file(const char *path) {
+    int file = open(path, O_WRONLY | O_CREAT, 0666);
+    expect(file >= 0 && !flock(file, LOCK_EX | LOCK_NB), "a file");
+    return file;
+}
+
+static void a_sweep_removes_what_no_process_has(void) {
+    static const char *const stay[] = {".part-0123456789abcde", ".part-0123456789abcdef0", ".part-0123456789abcdeg", "part-0123456789abcdef"};
+    const char *folder = new_folder();
+    lanes_place place;
+    int held = held_file(path_in(folder, ".part-0000000000000001"));
+    close(held_file(path_in(folder, ".part-0000000000000002")));
+    for (int i = 0; i < 4; i++) close(held_file(path_in(folder, stay[i])));
+    expect(!mkdir(path_in(folder, ".part-0000000000000003"), 0777) && !symlink(stay[0], path_in(folder, ".part-0000000000000004")), "a folder and a link");
+    expect(put(folder, "one") == LANES_ON_DISK && count_of(folder) == 9, "a put sweeps nothing");
+    expect(!lanes_folder_sweep(folder, &place) && count_of(folder) == 8 && access(path_in(folder, ".part-0000000000000002"), F_OK), "what nobody has goes");
+    close(held);
+    expect(!lanes_folder_sweep(folder, &place) && count_of(folder) == 7, "and what a process has once it ends");
+    expect(lanes_folder_sweep("no folder", &place) == LANES_SYSTEM && place.first == ENOENT, "no folder");
+}
+
+static void names_are_none_if_a_listing_is_refused(void) {
+    lanes_part_named name = "\xff";
+    lanes_part_names names = {&name, 7}, about = {&name, 1};
+    lanes_place place;
+    uint64_t came;
+    expect(lanes_folder_follow("no folder", LANES_FOLDER_LIST, text_of(""), 0, NULL, &names, &came, &place) == LANES_SYSTEM && !names.names && !names.count, "no folder");
+    names = (lanes_part_names){&name, 7};
+    expect(lanes_folder_follow(".", LANES_FOLDER_KEEP_ALL, text_of(""), 0, &about, &names, &came, &place) == LANES_SYNTAX && !names.names && !names.count, "a name that is no text");
 }
 
 static void a_lock_of_a_temporary_that_fails_is_told(void) {
@@ -179,6 +294,31 @@ static void a_lock_of_a_temporary_that_fails_is_told(void) {
         expect(put(folder, i ? i > 1 ? "three" : "two" : "one") == LANES_ON_DISK && count_of(folder) == i + 1, "a file system without locks");
     }
     met.lock_fault = 0;
+}
+
+/* Whether another process can have the lock of a path. */
+static int is_free(const char *path) {
+    int file = open(path, O_RDONLY);
+    int is_had = file >= 0 && !flock(file, LOCK_EX | LOCK_NB);
+    close(file);
+    return is_had;
+}
+
+static void a_child_that_is_forked_meanwhile_keeps_no_lock(void) {
+    const char *folder = new_folder();
+    lanes_part_names names = {NULL, 0}, none = {NULL, 0};
+    lanes_place place;
+    uint64_t came;
+    char path[4200];
+    met.is_forked = 1;
+    expect(!lanes_folder_follow(folder, LANES_FOLDER_PUT_JUDGED, text_of("one"), 3, &none, NULL, &came, &place) && came == LANES_ON_DISK, "a part is put");
+    snprintf(path, sizeof path, "%s/%s", folder, name_of("one"));
+    expect(forked == 2 && is_free(folder) && is_free(path), "of a put");
+    expect(!lanes_folder_follow(folder, LANES_FOLDER_LIST, text_of(""), 0, NULL, &names, &came, &place) && names.count == 1, "a listing");
+    expect(forked == 3 && is_free(folder), "of a listing");
+    met.is_forked = 0;
+    end_children();
+    free(names.names);
 }
 
 static void a_part_is_renamed_if_there_are_no_hard_links(void) {
@@ -207,8 +347,13 @@ int main(int count, char **words) {
     if (count == 2) snprintf(room, sizeof room, "%s", words[1]);
     if (count != 2 || chdir(room)) return 2;
     a_folder_that_could_not_be_synced_once_stays_so();
-    a_temporary_that_a_sweep_has_is_not_ours();
+    a_put_whose_temporary_was_swept_begins_anew();
+    a_write_that_is_interrupted_is_made_again();
+    a_part_has_the_mode_of_the_part_of_least_name();
+    a_sweep_removes_what_no_process_has();
+    names_are_none_if_a_listing_is_refused();
     a_lock_of_a_temporary_that_fails_is_told();
+    a_child_that_is_forked_meanwhile_keeps_no_lock();
     a_part_is_renamed_if_there_are_no_hard_links();
     printf("driver: %d passed, %d failed\n", passed, not_passed);
     return not_passed ? 1 : 0;

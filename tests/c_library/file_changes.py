@@ -12,6 +12,7 @@ import time
 
 from compiling import C99, CPP17, DRIVERS, TOP, compiled, valgrind
 from injecting import each_call, held_file, traced
+from replacing import as_nobody
 from room import Room
 
 LOCK = ".t.lanes-lock"
@@ -103,7 +104,7 @@ def each_call_of_a_change_fails_and_kills_and_nothing_is_lost(library, folder):
             tried.setdefault((ended.kind, ended.is_killed), []).append(ended.when)
             change.judge(ended)
         is_put = change.before != change.after
-        wanted = {"fsync": 2, "flock": 1, "ftruncate": is_put, "rename,renameat,renameat2": is_put, "unlink,unlinkat": not is_put}
+        wanted = {"fsync": 2, "flock": 2, "ftruncate": is_put, "rename,renameat,renameat2": is_put, "unlink,unlinkat": not is_put}
         for kind, count in wanted.items():
             assert all(len(tried.get((kind, is_killed), [])) == count for is_killed in (False, True)), f"{words}: {kind}: {tried}"
 
@@ -113,6 +114,7 @@ PUT = [
     r'openat\(.*, "\.t\.lanes-lock", .*O_CREAT\|O_EXCL',
     r"flock\(.*, LOCK_EX\|LOCK_NB\) += 0",
     r"fchmod\(",
+    r'openat\(.*, "t", O_WRONLY',
     r'openat\(.*, "t", O_RDONLY',
     r"ftruncate\(.*, 0\)",
     r"write\(",
@@ -120,7 +122,7 @@ PUT = [
     r'rename.*"\.t\.lanes-lock".*"t"',
     r"fsync\([0-9]+<[^>]*/site>\) += 0",
 ]
-KEPT = PUT[:4] + [r"fsync\([0-9]+<[^>]*/t>\) += 0", r"fsync\([0-9]+<[^>]*/site>\) += 0", r'unlinkat\(.*"\.t\.lanes-lock"']
+KEPT = PUT[:5] + [r"fsync\([0-9]+<[^>]*/t>\) += 0", r"fsync\([0-9]+<[^>]*/site>\) += 0", r'unlinkat\(.*"\.t\.lanes-lock"']
 
 
 def the_system_calls_are_those_of_the_program_in_their_order(library, folder):
@@ -135,6 +137,19 @@ def the_system_calls_are_those_of_the_program_in_their_order(library, folder):
             assert found, f"{step} isn't in its place in\n{trace[-2000:]}"
             place = found.end()
         assert trace.count("fsync(") == 2 and ("rename" in trace) == (steps is PUT), trace
+
+
+def a_file_that_may_not_be_written_is_refused_and_stays(library, folder):
+    """As by the program, though the folder allows its replacement."""
+    example, _ = rooms(library, folder)
+    os.chmod(folder, 0o755)
+    how = as_nobody(example)
+    example.ok(*MAKE, **how)
+    os.chmod(example.path("t"), 0o444)
+    before, names = example.get("t"), example.names()
+    for words in ("import", "A\n1\n"), ("load", "1", "A\n1\n"), ("delete", "A = 1"):
+        example.refused("t", *words, line="refused System: the system refused a call on the file: Permission denied", **how)
+        assert example.get("t") == before and example.names() == names, f"{words} left {example.names()}"
 
 
 def rows_of(program, site="t"):
@@ -202,7 +217,7 @@ def a_file_that_another_holds_is_busy_after_ten_seconds(library, folder):
         waiting = [example.start("t", "import", f"A\n{row}\n") for row in range(3)]
         for one in waiting:
             _, said = one.communicate(timeout=60)
-            assert one.returncode == 1 and said.startswith(b"refused Busy: "), said
+            assert one.returncode == 1 and said == b"refused Busy: another process has had the file for ten seconds\n", said
         assert 9 < time.monotonic() - started < 20 and example.get("t") == before
         waiting = [example.start("t", "import", f"A\n{row}\n") for row in range(3)]
         time.sleep(1)
@@ -217,6 +232,7 @@ TESTS = [
     held_files_are_as_the_header_says,
     a_change_without_memory_leaves_the_file_and_no_lock,
     a_lock_that_others_rename_or_remove_is_not_had,
+    a_file_that_may_not_be_written_is_refused_and_stays,
     the_system_calls_are_those_of_the_program_in_their_order,
     each_call_of_a_change_fails_and_kills_and_nothing_is_lost,
     imports_in_c_beside_imports_of_the_program_lose_nothing,

@@ -5,7 +5,11 @@
 #include "told.h"
 
 #include <errno.h>
+#include <fcntl.h>
+#include <signal.h>
+#include <sys/file.h>
 #include <sys/stat.h>
+#include <sys/wait.h>
 #include <unistd.h>
 
 static const char LOCK[] = ".t.lanes-lock";
@@ -63,7 +67,8 @@ static void try_turns(void) {
     expect(is_there(LOCK) && !is_there("t"), "the lock is next to the file");
     lanes_file_let_go(&held);
     expect(!is_there(LOCK) && !is_there("t"), "a file that is let go is not made");
-    expect(lanes_file_hold("t", &held, &place) == 0 && replace(&held, "first", &came, &place) == 0 && came == LANES_ON_DISK, "a file is made");
+    expect(lanes_file_hold("t", &held, &place) == 0 && replace(&held, "", &came, &place) == 0 && came == LANES_ON_DISK && has_text("t", ""), "an empty file is made");
+    expect(unlink("t") == 0 && lanes_file_hold("t", &held, &place) == 0 && replace(&held, "first", &came, &place) == 0 && came == LANES_ON_DISK, "a file is made");
     expect(has_text("t", "first") && !is_there(LOCK), "it has the bytes, and no lock is left");
     expect(replace(&held, "second", &came, &place) == LANES_NOT_OPEN && has_text("t", "first"), "a file is replaced once");
     expect(lanes_file_hold("t", &held, &place) == 0 && held.is_there && held.length == 5 && memcmp(held.bytes, "first", 5) == 0, "a file is read");
@@ -113,6 +118,22 @@ static void try_refused(void) {
     expect(has_text("t", "third"), "the file is as it was");
 }
 
+static bool says(uint8_t number, uint64_t first, const char *wanted) {
+    uint8_t sentence[256];
+    lanes_place place = {first, 0};
+    size_t length = lanes_file_sentence(number, &place, sentence, sizeof sentence), again = lanes_file_sentence(number, &place, sentence, 0);
+    return length == strlen(wanted) && again == length && memcmp(sentence, wanted, length) == 0;
+}
+
+/* What is said of a refusal speaks of the file, with the system's reason. */
+static void try_sentences(void) {
+    expect(says(LANES_SYSTEM, ENOENT, "the system refused a call on the file: No such file or directory"), "no folder");
+    expect(says(LANES_SYSTEM, EACCES, "the system refused a call on the file: Permission denied"), "a file that may not be written");
+    expect(says(LANES_BUSY, 0, "another process has had the file for ten seconds"), "a file that another has");
+    expect(says(LANES_NOT_OPEN, 0, "no file is open in this handle"), "the others are the library's");
+    expect(says(0, 0, ""), "no refusal");
+}
+
 /* A lock that a killed process left is taken, also if it is the file by a second name; a link is followed and stays; the mode is kept. */
 static void try_left(void) {
     lanes_held held = LANES_NOT_HELD;
@@ -129,6 +150,36 @@ static void try_left(void) {
     expect(has_text("t", "fifth") && !lstat("folder/link", &found) && S_ISLNK(found.st_mode), "and stays one");
     expect(!stat("t", &found) && (found.st_mode & 07777) == 0640, "the mode is kept");
     lanes_file_let_go(&held);
+}
+
+/* Whether another process can have the lock of a path. */
+static bool is_free(const char *path) {
+    int file = open(path, O_RDONLY);
+    bool is_had = file >= 0 && flock(file, LOCK_EX | LOCK_NB) == 0;
+    close(file);
+    return is_had;
+}
+
+/* A child that is forked while a file is held has the lock's descriptor too. It keeps no lock that was given back. */
+static void try_fork(void) {
+    lanes_held held = LANES_NOT_HELD;
+    lanes_place place;
+    uint64_t came;
+    for (int turn = 0; turn < 2; turn++) {
+        bool is_put = turn == 1;
+        if (lanes_file_hold("t", &held, &place) || (is_put ? 0 : link(LOCK, "lock"))) exit(3);
+        pid_t child = fork();
+        if (!child) {
+            alarm(60);
+            for (;;) pause();
+        }
+        if (is_put && replace(&held, "sixth", &came, &place)) exit(3);
+        lanes_file_let_go(&held);
+        expect(is_free(is_put ? "t" : "lock"), is_put ? "a lock that became the file is free" : "a lock that was let go is free");
+        kill(child, SIGKILL);
+        waitpid(child, NULL, 0);
+    }
+    if (unlink("lock")) exit(3);
 }
 
 static const char LONG[] = "A,B\n";
@@ -175,7 +226,9 @@ int main(void) {
     try_turns();
     try_two();
     try_refused();
+    try_sentences();
     try_left();
+    try_fork();
     try_tables();
     return told_all("held_files");
 }

@@ -1,8 +1,10 @@
-/* The driver of files, between whose calls other processes act: the lock that it has opened is renamed or removed before it is locked. The others
- * are made up: they act when the driver locks. */
+/* The driver of files, between whose calls other processes act: the lock that it has opened is renamed or removed before it is locked, or another one
+ * has it for long. The others are made up: they act when the driver locks. So is the time. */
 #define _DEFAULT_SOURCE
+#include <dirent.h>
 #include <fcntl.h>
 #include <sys/file.h>
+#include <time.h>
 #include <unistd.h>
 
 #include "told.h"
@@ -18,8 +20,20 @@ static int trying_flock(int file, int how) {
     return flock(file, how);
 }
 
+/* Whether ten seconds pass at each look at the clock. */
+static bool is_late = false;
+
+static int trying_clock_gettime(clockid_t kind, struct timespec *now) {
+    static int looks = 0;
+    int fault = clock_gettime(kind, now);
+    if (is_late) now->tv_sec += 10 * ++looks;
+    return fault;
+}
+
 #define flock trying_flock
+#define clock_gettime trying_clock_gettime
 #include "lanes_file_driver.c"
+#undef clock_gettime
 #undef flock
 
 static void write_file(const char *path, const char *text) {
@@ -70,10 +84,36 @@ static void try_race(void (*others)(int), const char *wanted, const char *what) 
     expect(access(NAME, F_OK) == -1, "no lock is left");
 }
 
+static int open_files(void) {
+    int count = 0;
+    DIR *listing = opendir("/proc/self/fd");
+    if (!listing) exit(3);
+    while (readdir(listing)) count++;
+    closedir(listing);
+    return count;
+}
+
+/* A caller that is told that another has the file has nothing to let go. */
+static void try_busy(void) {
+    lanes_place place;
+    other_locks();
+    before_lock = NULL;
+    is_late = true;
+    int before = open_files();
+    for (int count = 0; count < 300; count++) {
+        lanes_held held = LANES_NOT_HELD;
+        if (lanes_file_hold("t", &held, &place) != LANES_BUSY) exit(3);
+    }
+    is_late = false;
+    expect(open_files() == before, "nothing is left open");
+    if (unlink(NAME) || close(other)) exit(3);
+}
+
 int main(void) {
     write_file("t", "first");
     try_race(new_lock_is_removed, "of another", "a lock that was removed is not had");
     other_locks();
     try_race(opened_lock_becomes_the_file, "of the third", "a lock that has become the file is not had");
+    try_busy();
     return told_all("held_races");
 }

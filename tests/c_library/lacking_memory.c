@@ -1,5 +1,5 @@
 /* Each call on a handle with its first growth of memory refused, then with its second, and so on: it is refused as LANES_MEMORY, and the
- * handle has what it had; and the same call again succeeds. malloc and realloc are those below. */
+ * handle has what it had, as has another handle of the same table; and the same call again succeeds. malloc and realloc are those below. */
 #include "told.h"
 
 extern void *__libc_malloc(size_t size);
@@ -94,13 +94,22 @@ static bytes file_after(bytes start, uint8_t (*call)(lanes_table *, lanes_place 
     return then;
 }
 
+/* Another handle of the table has what it had. */
+static void expect_kept(lanes_table *other, bytes start, const char *what) {
+    bytes kept = file_of(other);
+    expect(are_same(kept, start), what);
+    free(kept.at);
+    lanes_close(other);
+}
+
 /* How many growths of a call were refused. A call may do without one: room that is asked for ahead. Then it does what it does with it. */
-static long refuse_each(bytes start, uint8_t (*call)(lanes_table *, lanes_place *), const char *what) {
+static long refuse_each(bytes start, uint8_t (*call)(lanes_table *, lanes_place *), bool is_shared, const char *what) {
     bytes done = file_after(start, call);
     long refused = 0;
     for (long growth = 0; growth < MOST; growth++) {
-        lanes_table table = opened(start);
+        lanes_table table = opened(start), other = LANES_CLOSED;
         lanes_place place;
+        if (is_shared && lanes_share(&table, &other) != 0) exit(3);
         left = growth;
         uint8_t number = call(&table, &place);
         bool was_refused = left < 0;
@@ -114,6 +123,7 @@ static long refuse_each(bytes start, uint8_t (*call)(lanes_table *, lanes_place 
             expect(was_refused && number == LANES_MEMORY && are_same(then, start), what);
             expect(call(&table, &place) == 0, what);
         }
+        if (is_shared) expect_kept(&other, start, what);
         free(then.at);
         lanes_close(&table);
         if (!was_refused) {
@@ -124,27 +134,35 @@ static long refuse_each(bytes start, uint8_t (*call)(lanes_table *, lanes_place 
     exit(3);
 }
 
+/* More growths than these are refused, in the only handle of the table and beside another. */
+static void expect_refused(bytes start, uint8_t (*call)(lanes_table *, lanes_place *), long least, const char *what) {
+    expect(refuse_each(start, call, false, what) > least, what);
+    expect(refuse_each(start, call, true, what) > least, what);
+}
+
 int main(void) {
     static const char table[] = "COUNTS SITE SMALLINT HITS INTEGER";
-    bytes empty, start, dead;
+    bytes empty, start, both, dead;
     TAKE(empty, lanes_create(text_of(table), strlen(table), out, room, &length, &place));
     TAKE(start, lanes_import(empty.at, empty.length, text_of("1,10\n1,7\n2,\n"), 12, false, 1, 1, WORDS, 0, out, room, &length, &place));
     TAKE(offer, lanes_import(empty.at, empty.length, text_of("9,90\n"), 5, false, 2, 1, WORDS, 0, out, room, &length, &place));
-    TAKE(dead, lanes_delete(start.at, start.length, text_of("SITE > 0"), 8, out, room, &length, &place));
-    expect(refuse_each(start, import, "an import") > 5, "growths of an import");
-    expect(refuse_each(start, import_columns, "an import of columns") > 5, "growths of an import of columns");
-    expect(refuse_each(start, delete, "a delete") > 3, "growths of a delete");
-    expect(refuse_each(start, delete_rows, "a delete of rows") > 3, "growths of a delete of rows");
-    expect(refuse_each(start, delete_held_rows, "a delete of held rows") > 3, "growths of a delete of held rows");
-    expect(refuse_each(start, spread, "a spread") > 5, "growths of a spread");
-    expect(refuse_each(start, apply, "an offer") > 5, "growths of an offer");
-    expect(refuse_each(dead, forget, "a forget") > 3, "growths of a forget");
-    expect(refuse_each(start, inspect, "a report") > 5, "growths of a report");
-    expect(refuse_each(start, file, "a file") > 0, "growths of a file");
-    expect(refuse_each(start, between, "columns") > 2, "growths of columns");
-    expect(refuse_each(start, answer, "an answer by columns") > 5, "growths of an answer by columns");
+    TAKE(both, lanes_apply(start.at, start.length, offer.at, offer.length, out, room, &length, &place));
+    TAKE(dead, lanes_delete(both.at, both.length, text_of("SITE < 9"), 8, out, room, &length, &place));
+    expect_refused(start, import, 5, "an import");
+    expect_refused(start, import_columns, 5, "an import of columns");
+    expect_refused(start, delete, 3, "a delete");
+    expect_refused(start, delete_rows, 3, "a delete of rows");
+    expect_refused(start, delete_held_rows, 3, "a delete of held rows");
+    expect_refused(start, spread, 5, "a spread");
+    expect_refused(start, apply, 5, "an offer");
+    expect_refused(dead, forget, 0, "a forget");
+    expect_refused(start, inspect, 5, "a report");
+    expect_refused(start, file, 0, "a file");
+    expect_refused(start, between, 2, "columns");
+    expect_refused(start, answer, 5, "an answer by columns");
     free(empty.at);
     free(start.at);
+    free(both.at);
     free(offer.at);
     free(dead.at);
     return told_all("lacking_memory");

@@ -67,12 +67,41 @@ static void sum_column(const struct ArrowArray *array, char format, uint64_t *su
     *nulls += found;
 }
 
+/* An answer of more rows than an array has, with numbers past 64 bits: each array has its own, i + 2^64 at row i. */
+static void try_wide_answer(void) {
+    enum { ROWS = 2 * 65536 + 3 };
+    struct ArrowArrayStream stream;
+    struct ArrowArray array;
+    uint64_t *numbers = malloc(ROWS * 2 * sizeof *numbers), row = 0;
+    uint8_t *marks = malloc(ROWS);
+    if (!numbers || !marks) ends("memory", 0);
+    memset(marks, 1, ROWS);
+    for (uint64_t i = 0; i < ROWS; i++) {
+        numbers[2 * i] = i;
+        numbers[2 * i + 1] = 1;
+    }
+    lanes_arrow_column given = {.name = "S", .is_wide = true, .numbers = (const int64_t *)numbers, .marks = marks};
+    if (lanes_arrow_answer(ROWS, 1, &given, &stream)) ends("an answer", 0);
+    free(numbers);
+    free(marks);
+    for (;; array.release(&array)) {
+        if (stream.get_next(&stream, &array)) ends(stream.get_last_error(&stream), 0);
+        if (!array.release) break;
+        const uint64_t *found = array.children[0]->buffers[1];
+        for (int64_t i = 0; i < array.length; i++, row++)
+            if (found[2 * i] != row || found[2 * i + 1] != 1) ends("a number past 64 bits is that of another row", (unsigned)row);
+    }
+    stream.release(&stream);
+    if (row != ROWS) ends("rows", (unsigned)row);
+}
+
 int main(int count, char **words) {
     struct ArrowArrayStream stream;
     struct ArrowSchema schema;
     uint64_t sums[32] = {0};
     int64_t nulls[32] = {0}, rows = 0, arrays = 0;
     if (count < 2) return 2;
+    try_wide_answer();
     open_stream(words[1], count > 2 ? words[2] : "", &stream);
     if (stream.get_schema(&stream, &schema)) ends("get_schema", 0);
     for (;; arrays++) {

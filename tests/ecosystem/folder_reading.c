@@ -58,6 +58,7 @@ static void trying_rewinddir(DIR *open) {
 }
 
 static int trying_flock(int file, int kind) {
+    if (kind == LOCK_UN) return met.lock = -1, 0;
     expect(file >= 0 && kind == (LOCK_SH | LOCK_NB), "another lock is taken");
     if (met.lock_fault) return errno = met.lock_fault, -1;
     if (met.busy) {
@@ -310,7 +311,7 @@ static long try_memory(const char *room) {
         begin();
         met.allocations = failed;
         if (is_read(room)) return failed;
-        expect(refused.number == LANES_SYSTEM && refused.place.first == ENOMEM, "another fault than memory");
+        expect(refused.number == LANES_MEMORY && refused.place.first == 0, "another fault than memory");
     }
 }
 

@@ -6,6 +6,7 @@ from __future__ import annotations
 import ctypes
 import gc
 import random
+import time
 import unittest.mock
 from decimal import Decimal
 
@@ -78,20 +79,23 @@ def columns_and_conditions_that_are_wrong_are_told_by_their_names():
     table = Table.create("T", {"A": "INTEGER", "B": "BIGINT"})
     for call in table.to_numpy, table.to_pandas:
         for columns, where, kind, words in [
-            (["A", "c"], "", Refused, 'NoSuchColumn 2: columns: byte 2: there is no column "c": the table has A, B'),
-            (["A B"], "", Refused, 'NoSuchColumn 0: columns: byte 0: there is no column "A B"'),
-            (["\u00e9"], "", Refused, 'NoSuchColumn 0: columns: byte 0: there is no column "\u00e9"'),
+            (["A", "c"], "", Refused, 'NoSuchColumn 2: columns: there is no column "c": the table has A, B'),
+            (["A B"], "", Refused, 'NoSuchColumn 0: columns: there is no column "A B"'),
+            (["\u00e9"], "", Refused, 'NoSuchColumn 0: columns: there is no column "\u00e9"'),
             (["A"], "Zed > 1", Refused, 'NoSuchColumn 0: where: byte 0: there is no column "Zed": the table has A, B'),
             (None, "A =", Refused, "Syntax 3: where: byte 3: "),
             (["A"], "1 = 1 GROUP BY A", Refused, "Syntax 6: where: byte 6: write the condition alone"),
             ("A", "", TypeError, "columns: several names"),
             (5, "", TypeError, "columns: several names"),
             ([5], "", TypeError, "columns: the name of a column"),
-            (["A"], None, TypeError, "where: a text is wanted"),
+            (["A", "a"], "", ValueError, "columns: A is there twice"),
             (["A"], 5, TypeError, "where: a text is wanted"),
         ]:
             told(kind, words, call, columns, where)
-    assert table.to_numpy([]) == {} and len(table.to_pandas()) == 0
+    assert table.to_numpy([]) == {} and len(table.to_pandas()) == 0 and list(table.batches(1, columns=[])) == []
+    three = table.import_columns({"A": [1, 2, 3], "B": [4, 5, 6]})
+    assert [piece.rows for piece in three.batches(2, columns=[])] == [2, 1] and len(three.to_pandas([])) == three.to_numpy([]).rows == 3
+    assert [piece.rows for piece in three.batches(2, where="A > ?", values=[1])] == [2] and three.to_pandas(where=None).equals(three.to_pandas())
     frame = pd.DataFrame({"A": [1], "B": [2]})
     for wrong, kind, words in [
         (frame.rename(columns={"B": 1}), TypeError, "frame: 1 is no name of a column"),
@@ -99,8 +103,20 @@ def columns_and_conditions_that_are_wrong_are_told_by_their_names():
         (frame["A"], TypeError, "frame: a frame of pandas is wanted"),
         (frame.to_numpy(), TypeError, "frame: a frame of pandas is wanted"),
         (frame[["A"]], ValueError, "columns: the columns A, B are wanted, each once, and these are A"),
+        (frame.set_index("A"), ValueError, "frame: the index A is no column: frame.reset_index() makes one of it"),
     ]:
         told(kind, words, table.import_frame, wrong)
+
+
+def frames_keep_their_index_and_the_types_of_empty_columns():
+    frame = pd.DataFrame({"SITE": [1, 1, 2], "HITS": [10, 7, 5]})
+    for grouped in frame.groupby("SITE").sum(), frame.groupby(["SITE", "HITS"]).sum(), frame.set_index(["SITE", "HITS"]):
+        told(ValueError, "frame: the index SITE", Table.from_frame, "T", grouped)
+    assert Table.from_frame("T", frame.groupby("SITE").sum().reset_index()).query("SELECT SITE,SUM(HITS) FROM T GROUP BY SITE") == [(1, 17), (2, 5)]
+    types = {"int8": "TINYINT", "uint8": "SMALLINT", "int16": "SMALLINT", "Int16": "SMALLINT", "int32": "INTEGER", "int64": "BIGINT"}
+    empty = pd.DataFrame({f"C{at}": pd.Series([], dtype=kind) for at, kind in enumerate(types)})
+    assert list(Table.from_frame("T", empty).columns.values()) == list(types.values())
+    told(TypeError, "column A: whole numbers are wanted, and this is float64", Table.from_frame, "T", pd.DataFrame({"A": pd.Series([], dtype="float64")}))
 
 
 def rows_go_in_with_the_bytes_of_comma_separated_values(seed, count=TABLES):
@@ -151,6 +167,10 @@ def rows_that_do_not_fit_are_refused():
         ({"A": good, "B": ["1", "2", "3"]}, TypeError, "whole numbers"),
         ({"A": good, "B": [True, False, None]}, TypeError, "whole numbers"),
         ({"A": good, "B": [True, False, True]}, TypeError, "whole numbers"),
+        ({"A": [True, 2, 3], "B": good}, TypeError, "True is none, in row 0: it is a truth value"),
+        ({"A": pd.Series([True, False, True]), "B": good}, TypeError, "and this is bool, of truth values: .astype('int8') makes"),
+        ({"A": pd.Series(["x", "y", "z"]), "B": good}, TypeError, "'x' is none, in row 0: it is a text"),
+        ({"A": pd.Series(pd.date_range("2020", periods=3)), "B": good}, TypeError, "and this is datetime64[ns], of times"),
         ({"A": good, "B": [1, None, float("nan")]}, TypeError, "whole numbers and None are wanted, and nan is none"),
         ({"A": good, "B": np.array([1, None, np.float64("nan")], object)}, TypeError, "whole numbers and None are wanted, and nan is none"),
         ({"A": good, "B": [1, 1 << 64, None]}, ValueError, "outside every type"),
@@ -162,16 +182,16 @@ def rows_that_do_not_fit_are_refused():
         ({"A": good, "B": (n for n in good)}, ValueError, "column B: a list of numbers"),
         ({"A": good, "B": pd.array([1.0, None, 2.0], "Float64")}, TypeError, "column B: whole numbers"),
         ({"A": good, "B": pd.array([True, None, False], "boolean")}, TypeError, "column B: whole numbers"),
-        ({"A": [1, 2, 128], "B": good}, Refused, "row 2, column 0"),
-        ({"A": [-129, None, 128], "B": good}, Refused, "OutOfType 0 0: row 0, column 0"),
-        ({"A": good, "B": np.array([1, 1 << 63, 2], np.uint64)}, Refused, "row 1, column 1"),
-        ({"A": [1, 2, 128], "B": np.array([1, 1 << 63, 2], np.uint64)}, Refused, "row 1, column 1"),
-        ({"A": np.arange(300_000) // 299_999 * 200, "B": np.arange(300_000)}, Refused, "row 299999, column 0"),
-        ({"A": np.array([1, (1 << 64) - 1, 2], np.uint64), "B": good}, Refused, "row 1, column 0"),
-        ({"A": np.array([1, 128, (1 << 64) - 1], np.uint64), "B": np.array([1, 2, 1 << 63], np.uint64)}, Refused, "row 1, column 0"),
-        ({"A": [1, 2, 128], "B": np.array([1, 2, 1 << 63], np.uint64)}, Refused, "row 2, column 0"),
-        ({"A": [1, 128, 2], "B": np.array([1, 2, 1 << 63], np.uint64)}, Refused, "row 1, column 0"),
-        ({"A": np.arange(300_000) // 299_999 * 200, "B": np.arange(300_000, dtype=np.uint64) // 299_998 << 63}, Refused, "row 299998, column 1"),
+        ({"A": [1, 2, 128], "B": good}, Refused, "row 2, column A: 128 is outside TINYINT"),
+        ({"A": [-129, None, 128], "B": good}, Refused, "OutOfType 0 0: row 0, column A: -129 is outside TINYINT"),
+        ({"A": good, "B": np.array([1, 1 << 63, 2], np.uint64)}, Refused, "row 1, column B: 9223372036854775808 is outside BIGINT"),
+        ({"A": [1, 2, 128], "B": np.array([1, 1 << 63, 2], np.uint64)}, Refused, "row 1, column B: 9223372036854775808 is outside BIGINT"),
+        ({"A": np.arange(300_000) // 299_999 * 200, "B": np.arange(300_000)}, Refused, "row 299999, column A: 200"),
+        ({"A": np.array([1, (1 << 64) - 1, 2], np.uint64), "B": good}, Refused, "row 1, column A: "),
+        ({"A": np.array([1, 128, (1 << 64) - 1], np.uint64), "B": np.array([1, 2, 1 << 63], np.uint64)}, Refused, "row 1, column A: "),
+        ({"A": [1, 2, 128], "B": np.array([1, 2, 1 << 63], np.uint64)}, Refused, "row 2, column A: 128 is outside TINYINT"),
+        ({"A": [1, 128, 2], "B": np.array([1, 2, 1 << 63], np.uint64)}, Refused, "row 1, column A: "),
+        ({"A": np.arange(300_000) // 299_999 * 200, "B": np.arange(300_000, dtype=np.uint64) // 299_998 << 63}, Refused, "row 299998, column B: 9223372036854775808"),
     ]:
         try:
             table.import_columns(columns, batch="1.1")
@@ -184,8 +204,8 @@ def rows_that_do_not_fit_are_refused():
     for batch, numbers, words in [
         ("1.1", [4, 5, 6], "Conflict 1.1: this has batch 1.1 already, with other rows"),
         ("1.0", [4, 5, 6], "BadName: "),
-        ("1.1", past, "OutOfType 2 1: row 2, column 1"),
-        ("1.0", past, "OutOfType 2 1: row 2, column 1"),
+        ("1.1", past, "OutOfType 2 1: row 2, column B: 9223372036854775808"),
+        ("1.0", past, "OutOfType 2 1: row 2, column B: 9223372036854775808"),
     ]:
         try:
             held.import_columns({"A": good, "B": numbers}, batch=batch)
@@ -501,13 +521,14 @@ def streams_go_in():
     one = (1, 0, None, [(0, bytes(8), None)])
     good = [("A", b"i", 2), ("B", b"l", 2)]
     for columns, rows, kind, words, more in [
-        ([("A", b"I", 2)], [one], TypeError, "column A: int8, int16, int32 or int64 is wanted, and this is uint32", {}),
-        ([("A", b"g", 2)], [one], TypeError, "column A: int8, int16, int32 or int64 is wanted, and this is float64", {}),
-        ([("A", b"u", 2)], [one], TypeError, "column A: int8, int16, int32 or int64 is wanted, and this is utf8", {}),
-        ([("A", b"tdD", 2)], [one], TypeError, "column A: int8, int16, int32 or int64 is wanted, and this is date or time", {}),
+        ([("A", b"I", 2), ("B", b"L", 2)], [(1, 0, None, [(0, bytes(4), None), (0, bytes(8), None)])], None, "", {}),
+        ([("A", b"i", 2), ("B", b"L", 2)], [(1, 0, None, [(0, bytes(4), None), (0, b"\xff" * 8, None)])], Refused, "OutOfType 0 1: row 0, column B: 18446744073709551615", {}),
+        ([("A", b"g", 2)], [one], TypeError, "column A: whole numbers of 8, 16, 32 or 64 bits are wanted, and this is float64", {}),
+        ([("A", b"u", 2)], [one], TypeError, "column A: whole numbers of 8, 16, 32 or 64 bits are wanted, and this is utf8", {}),
+        ([("A", b"tdD", 2)], [one], TypeError, "column A: whole numbers of 8, 16, 32 or 64 bits are wanted, and this is date or time", {}),
         ([("A", b"i", 2), ("A", b"i", 2)], [one], ValueError, "data: the column 'A' is there twice", {}),
         ([("A", b"i", 2)], [one], ValueError, "columns: the columns A, B are wanted", {}),
-        (good, [(1, 0, None, [(0, bytes(4), None), (0, bytes(8), None)])], TypeError, "column B: int8, int16, int32 or int64 is wanted, and this is a dictionary", {"coded": "B"}),
+        (good, [(1, 0, None, [(0, bytes(4), None), (0, bytes(8), None)])], TypeError, "column B: whole numbers of 8, 16, 32 or 64 bits are wanted, and this is a dictionary", {"coded": "B"}),
         (good, [(2, 0, bytes([0b01]), [(0, bytes(8), None), (0, bytes(16), None)])], ValueError, "data: a row is null as a whole", {}),
         (good, [one], OSError, "data: the stream gives 1 columns", {}),
         (good, [one], OSError, "[Errno 5] data: the stream fails: the cable is cut", {"fails_at": 1}),
@@ -560,6 +581,21 @@ def a_schema_of_wider_integers_is_given_and_another_one_refused():
         told(ValueError, words, table.__arrow_c_stream__, capsule)
         assert kept.held == 1, "a schema is its giver's"
     told(ValueError, "", table.__arrow_c_stream__, table.__arrow_c_stream__())
+
+
+def a_head_costs_at_most_twice_the_first_batch():
+    """In processor time, turn by turn."""
+    pick, rows = np.random.default_rng(3), 200_000
+    columns = {"A": pick.integers(0, 500_000, rows), "B": np.ma.array(pick.integers(0, 99, rows), mask=pick.random(rows) < 0.05), "C": pick.integers(-(2**62), 2**62, rows)}
+    table = Table.create("T", {"A": "INTEGER", "B": "INTEGER", "C": "BIGINT"}).import_columns(columns)
+    costs = {table.head: [], lambda count: next(table.batches(count)): []}
+    for _ in range(7):
+        for act, found in costs.items():
+            begun = time.process_time()
+            act(5)
+            found.append(time.process_time() - begun)
+    head, batch = map(min, costs.values())
+    assert head <= 2 * batch, f"{head:.4f} s for {batch:.4f} s"
 
 
 def streams_that_nobody_takes_are_released():

@@ -49,6 +49,13 @@ def frames_that_are_no_table_are_refused():
         assert fault.name == "BadSchema"
 
 
+def a_frame_that_is_sent_again_under_its_name_is_the_same_load():
+    frame = pd.DataFrame({"A": [1, 2], "B": [3, 4]})
+    first, again = (Table.from_frame("T", frame, batch="1.1") for _ in range(2))
+    assert first == again and len(first.merge(again)) == 2
+    assert first.dump(names=True).splitlines()[1].startswith("1.1"), first.dump(names=True)
+
+
 def table_of(pick, rows):
     """A table of some batches, with nulls and deleted rows."""
     table = Table.create("T", {"A": "INTEGER", "B": "TINYINT", "C": "BIGINT"})
@@ -128,4 +135,4 @@ def streams_make_tables_and_folders_give_them():
         assert len(table.import_arrow(folder)) == 2 * len(table)
 
 
-TESTS = [types_are_those_of_the_data, frames_that_are_no_table_are_refused, imports_of_columns_tell_how_far_they_are, frames_of_answers_have_their_headings, folders_give_frames_and_arrays]
+TESTS = [types_are_those_of_the_data, frames_that_are_no_table_are_refused, a_frame_that_is_sent_again_under_its_name_is_the_same_load, imports_of_columns_tell_how_far_they_are, frames_of_answers_have_their_headings, folders_give_frames_and_arrays]

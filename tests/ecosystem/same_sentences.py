@@ -1,4 +1,4 @@
-"""What the library says of a refusal is what the program says of it: of queries and conditions, of headings and rows in several dialects, of
+"""What the library says of a refusal is what the program says of it, in the words of Python: of queries and conditions, of headings and rows in several dialects, of
 names of columns, of tables that are made, of files of another kind, and of batches that are there already."""
 
 import os
@@ -15,6 +15,7 @@ import cures
 import lanes
 import sentences
 from lanes import Folder, Refused, Table, calls
+from lanes.words import in_python
 
 #: The statements that people wrote who knew another SQL, over this table.
 MISTAKES = (HERE / "mistakes.sql").read_text().splitlines()
@@ -84,6 +85,11 @@ class Told:
         name, sentence = self.of(*words)
         called = " ".join([found.name, *map(str, found.place)]) if found.name not in ("Conflict",) else f"{found.name} {found.place[0]}.{found.place[1]}"
         assert called == name, (words, called, name)
+        # Of a text the program also names the file that it is for.
+        file = next((word for word in words[1:] if word and sentence.startswith(f"{word}: ")), subject)
+        sentence = in_python(sentence if file == subject else sentence.removeprefix(f"{file}: "))
+        if words[-1] == "":  # an empty text has no byte
+            sentence = sentence.replace("byte 0: ", "", 1)
         told = [found.sentence, f"{subject}, {found.sentence}", f"{subject}: {found.sentence}"]
         assert sentence == told[0] if not subject else sentence in told[1:], (words, sentence, found.sentence)
         assert len(found.sentence.encode()) <= 1024 and found.sentence.isprintable(), found.sentence

@@ -475,6 +475,100 @@ def a_file_that_is_written_in_place_is_another_one(extension):
         running.close()
 
 
+def a_settled_file_that_is_written_in_place_with_as_many_bytes_is_another_one(extension):
+    """What was open could be shared, and is not."""
+    with tempfile.TemporaryDirectory(prefix="lanes-sqlite-") as room:
+        path = os.path.join(room, "t.lanes")
+        first, second = (Table.create("T", {"A": "INTEGER"}).import_csv("".join(f"{n + more}\n" for n in range(3000)), heading=False, batch="1.1") for more in (0, 1))
+        assert len(first.to_bytes()) == len(second.to_bytes())
+        first.save(path)
+        base = connected(extension)
+        time.sleep(2.1)  # as is_settled has it
+        base.execute(f"CREATE VIRTUAL TABLE temp.x USING lanes('{path}')")
+        assert base.execute("SELECT SUM(A) FROM x").fetchone() == (2999 * 3000 // 2,)
+        with open(path, "r+b") as file:
+            file.write(second.to_bytes())
+        assert base.execute("SELECT SUM(A) FROM x").fetchone() == (3000 * 3001 // 2,)
+
+
+def a_folder_of_as_many_other_parts_is_another_one(extension):
+    """Parts come in the place of others, each of which has the least name or the greatest in turn."""
+    with tempfile.TemporaryDirectory(prefix="lanes-sqlite-") as room:
+        site = lanes.Folder.create(os.path.join(room, "site"), "T", {"A": "INTEGER"})
+        empty = Table.create("T", {"A": "INTEGER"})
+        base = connected(extension)
+        base.execute(f"CREATE VIRTUAL TABLE temp.x USING lanes('{site.path}')")
+        for parts in 1, 2, 3:
+            while len(site.parts()) < parts:
+                site.import_csv("1\n", heading=False)
+            for number in range(24):
+                gone = site.parts()[number % parts]
+                part_folder.put(site.path, empty.import_csv(f"{number}\n", heading=False, batch=(7, 24 * parts + number)).to_bytes())
+                os.unlink(os.path.join(site.path, gone))
+                found = sorted(row for (row,) in base.execute("SELECT A FROM x"))
+                assert found == sorted(int(line) for line in site.dump().splitlines()[1:]), (parts, number)
+
+
+def scans_beside_each_other_have_each_row_once(extension):
+    """One from the first row on, and one from the last row back, each of which reads on while the other one is in a block that begins where its own
+    does and ends elsewhere."""
+    rows = 126_000
+    with tempfile.TemporaryDirectory(prefix="lanes-sqlite-") as room:
+        table = Table.create("T", {"A": "INTEGER"})
+        for batch in range(126):
+            table = table.import_columns({"A": range(batch * 1000, batch * 1000 + 1000)}, batch=(1, batch + 1))
+        table.save(os.path.join(room, "t.lanes"))
+        base = connected(extension)
+        base.execute(f"CREATE VIRTUAL TABLE temp.x USING lanes('{room}/t.lanes')")
+        wanted = [(row,) for row in range(rows)]
+        time.sleep(2.1)  # so that both scans share what is open
+        for back in 14_999, 15_000, 30_999, 31_000:  # some versions of Python ask for a row in advance
+            scans = base.execute("SELECT A FROM x ORDER BY rowid DESC"), base.execute("SELECT A FROM x")
+            found = [scan.fetchmany(count) for scan, count in zip(scans, (back, 63_001))]
+            found = [before + scan.fetchall() for scan, before in zip(scans, found)]
+            assert found == [wanted[::-1], wanted], back
+
+
+#: Another process that goes on writing over a file, cutting it and putting another one in its place, until its input ends.
+WRITER = """
+import os, select, sys
+path, *sources = sys.argv[1:]
+whole = [open(source, "rb").read() for source in sources]
+while not select.select([sys.stdin], [], [], 0)[0]:
+    for data in whole:
+        with open(path, "wb") as file:
+            file.write(data)
+        os.truncate(path, len(data) // 2)
+        with open(path + ".new", "wb") as file:
+            file.write(data)
+        os.replace(path + ".new", path)
+"""
+
+
+def a_file_that_is_written_over_while_it_is_opened_ends_no_process(extension):
+    """A thousand openings beside a process that writes over the file, cuts it and replaces it: each has the rows of one state, or is refused."""
+    with tempfile.TemporaryDirectory(prefix="lanes-sqlite-") as room:
+        path, sources, outcomes = os.path.join(room, "t.lanes"), [os.path.join(room, name) for name in "ab"], {}
+        wanted = []
+        for at, source in enumerate(sources):
+            table = Table.create("T", {"A": "BIGINT"}).import_csv("".join(f"{n * 7919 % 1000003 + at}\n" for n in range(100_000)), heading=False, batch="1.1")
+            table.save(source)
+            wanted.append([tuple(table.query("SELECT COUNT(*),SUM(A) FROM T")[0])])
+        base = connected(extension)
+        with subprocess.Popen([sys.executable, "-c", WRITER, path, *sources], stdin=subprocess.PIPE) as writer:
+            while not os.path.exists(path):
+                time.sleep(0.01)
+            ends = time.monotonic() + 300
+            while sum(outcomes.values()) < 1000 or len(outcomes) < 2:
+                made = outcome(base, f"CREATE VIRTUAL TABLE temp.x USING lanes('{path}')")
+                found = outcome(base, "SELECT COUNT(*),SUM(A) FROM x") if made == [] else made
+                assert found in wanted or isinstance(found, str) and found.startswith("lanes: "), found
+                outcomes[found in wanted] = outcomes.get(found in wanted, 0) + 1
+                base.execute("DROP TABLE IF EXISTS temp.x")
+                assert time.monotonic() < ends, outcomes
+            writer.stdin.close()
+
+
 def what_is_wrong_is_said(extension):
     with tempfile.TemporaryDirectory(prefix="lanes-sqlite-") as room:
         path = os.path.join(room, "t.lanes")
@@ -488,7 +582,7 @@ def what_is_wrong_is_said(extension):
             ("", "a file is wanted"),
             (f"'{path}', 'SELECT 1', 2", "a file is wanted"),
             (f"'{path}', 'SELECT B FROM T'", 'NoSuchColumn: byte 7: there is no column "B": the table has A'),
-            (f"'{path}', 'SELECT A FROM T LIMIT 1'", "Syntax: byte 16: there is no LIMIT: pipe the answer through head"),
+            (f"'{path}', 'SELECT A FROM T LIMIT 1'", "Syntax: byte 16: there is no LIMIT: pipe the answer through head -n 4 (the heading and 3 rows)"),
             (f"'{__file__}'", "BadMagic: this is a text file, not a lanes file"),
             (f"'{path}', 'SELECT A,A FROM T GROUP BY A'", "duplicate column"),
         ]:
@@ -520,6 +614,25 @@ def a_sum_past_64_bits_is_refused_or_given_as_the_table_says(extension):
         assert base.execute("SELECT MAX(S),MIN(S) FROM reals").fetchone() == (float(2 * big), float(-2 * big))
 
 
+def means_are_the_nearest_floats(extension):
+    """Those of numbers of all sizes, and of seven numbers near 2^62 whose mean is a seventh beside the middle of two floats."""
+    pick, lines = random.Random(1), []
+    for group in range(20_000):
+        most = 1 << pick.randint(1, 62)
+        lines += [f"{group},{pick.choice((-1, 1)) * pick.randint(most // 2, most)}\n" for _ in range(pick.randint(1, 7))]
+    for group in range(100):
+        middle = (1 << 62) + 1024 * group + 512
+        lines += [f"{20_000 + group},{number}\n" for number in [middle] * 6 + [middle + pick.choice((-1, 1))]]
+    with tempfile.TemporaryDirectory(prefix="lanes-sqlite-") as room:
+        path, sql = os.path.join(room, "t.lanes"), "SELECT A,AVG(B) AS M FROM T GROUP BY A"
+        table = Table.create("T", {"A": "INTEGER", "B": "BIGINT"}).import_csv("".join(lines), heading=False)
+        table.save(path)
+        base = connected(extension)
+        base.execute(f"CREATE VIRTUAL TABLE temp.x USING lanes('{path}', '{sql}')")
+        found, wanted = base.execute("SELECT * FROM x").fetchall(), [tuple(map(field_of, row)) for row in table.query(sql)]
+        assert found == wanted, next((one, other) for one, other in zip(found, wanted) if one != other)
+
+
 def what_is_open_stays_open_while_it_is_the_same(extension):
     """A row by its rowid costs no opening, which takes a hundred times as long; a row at the end costs no scan."""
     with tempfile.TemporaryDirectory(prefix="lanes-sqlite-") as room:
@@ -544,6 +657,7 @@ def what_is_open_stays_open_while_it_is_the_same(extension):
 
 TESTS = [
     a_sum_past_64_bits_is_refused_or_given_as_the_table_says,
+    means_are_the_nearest_floats,
     what_is_open_stays_open_while_it_is_the_same,
     a_statement_sees_one_state,
     a_cursor_that_opens_late_sees_the_state_of_its_statement,
@@ -557,6 +671,10 @@ TESTS = [
     a_part_at_fault_is_named,
     statements_that_fail_leave_nothing,
     a_file_that_is_written_in_place_is_another_one,
+    a_settled_file_that_is_written_in_place_with_as_many_bytes_is_another_one,
+    a_folder_of_as_many_other_parts_is_another_one,
+    scans_beside_each_other_have_each_row_once,
+    a_file_that_is_written_over_while_it_is_opened_ends_no_process,
     what_is_wrong_is_said,
 ]
 

@@ -136,37 +136,37 @@ def what_is_dumped_loads_into_sqlite_with_the_same_sums(room):
 
 # A text, its options, and the refusal and the sentence that it gets.
 FAULTS = (
-    (b"A,B\n1,2\n3,abc\n", [], "BadCsv 3 2", 'visits.csv, line 3, column B: "abc" is not a whole number'),
-    (b"B,A\nx,2\n", [], "BadCsv 2 1", 'visits.csv, line 2, column B: "x" is not a whole number'),
+    (b"A,B\n1,2\n3,abc\n", [], "BadCsv 3 2", 'visits.csv, line 3, column B: "abc" is not a whole number: write a number for each text'),
+    (b"B,A\nx,2\n", [], "BadCsv 2 1", 'visits.csv, line 2, column B: "x" is not a whole number: write a number for each text'),
     (b"A,B\n40000,2\n", [], "BadCsv 2 1", 'visits.csv, line 2, column A: "40000" is outside the type SMALLINT'),
-    (b'A,B\n"1.0",2\n', [], "BadCsv 2 1", 'visits.csv, line 2, column A: "1.0" is not a whole number'),
-    (b"A,B\n\x1b[2J\xff,2\n", [], "BadCsv 2 1", 'visits.csv, line 2, column A: "\\x1B[2J\\xFF" is not a whole number'),
-    (b"A,B\n" + b"7" * 50 + b",2\n", [], "BadCsv 2 1", 'visits.csv, line 2, column A: "' + "7" * 40 + '" has more than 30 digits'),
+    (b'A,B\n"1.0",2\n', [], "BadCsv 2 1", 'visits.csv, line 2, column A: "1.0" is not a whole number: write it in a smaller unit, as cents for an amount'),
+    (b"A,B\n\x1b[2J\xff,2\n", [], "BadCsv 2 1", 'visits.csv, line 2, column A: "\\x1B[2J\\xFF" is not a whole number: write a number for each text'),
+    (b"A,B\n" + b"7" * 50 + b",2\n", [], "BadCsv 2 1", 'visits.csv, line 2, column A: "' + "7" * 40 + '".. has more than 30 digits'),
     (b"A,B\n1\n", [], "BadCsv 2 0", "visits.csv, line 2: the line has 1 field, and the table has 2 columns"),
     (b"A,B\n1,2,3\n", [], "BadCsv 2 0", "visits.csv, line 2: the line has 3 fields, and the table has 2 columns"),
-    (b"A;B\n1;2\n", [], "BadCsv 1 0", "visits.csv, line 1: the line has 1 field, and the table has 2 columns; semicolons seem to separate its fields"),
+    (b"A;B\n1;2\n", [], "BadCsv 1 0", "visits.csv, line 1: the line has 1 field, and the table has 2 columns; semicolons seem to separate its fields: say --separator ';'"),
     (b"\xff\xfeA\0", [], "BadCsv 1 0", "visits.csv, line 1: this is UTF-16: save it as UTF-8"),
-    (b"", [], "BadCsv 1 0", "visits.csv, line 1: the header is missing: did the command before it fail?"),
-    (b"\nA,B\n", [], "BadCsv 1 0", "visits.csv, line 1: the header is missing: did the command before it fail?"),
-    (b"A;B\n1,2\n", ["--separator", ";"], "BadCsv 2 0", "visits.csv, line 2: the line has 1 field, and the table has 2 columns; commas seem to separate its fields"),
+    (b"", [], "BadCsv 1 0", "visits.csv, line 1: this line is empty, and should be the header: did the command before it fail?"),
+    (b"\nA,B\n", [], "BadCsv 1 0", "visits.csv, line 1: this line is empty, and should be the header: did the command before it fail?"),
+    (b"A;B\n1,2\n", ["--separator", ";"], "BadCsv 2 0", "visits.csv, line 2: the line has 1 field, and the table has 2 columns; commas seem to separate its fields: say --separator ','"),
     (b"x,y,z\n1,2\n", ["--columns", "A,-,B"], "BadCsv 2 0", "visits.csv, line 2: the line has 2 fields, and --columns has 3 words"),
     (b"x,y\n", ["--columns", "A,-,B"], "BadCsv 1 0", "visits.csv, line 1: the line has 2 fields, and --columns has 3 words"),
     (b"x,y\n", ["--columns", "b"], "BadCsv 1 0", "visits.csv, line 1: the line has 2 fields, and --columns has 1 word"),
     (b"1,x,2\n3,y,4\n", ["--columns", "A,-,B"], "BadCsv 1 0", "visits.csv, line 1: this is a row and no header: with --no-header it is read as a row"),
-    (b"", ["--columns", "A,-"], "BadCsv 1 0", "visits.csv, line 1: the header is missing: did the command before it fail?"),
+    (b"", ["--columns", "A,-"], "BadCsv 1 0", "visits.csv, line 1: this line is empty, and should be the header: did the command before it fail?"),
     (b"x,40000\n", ["--no-header", "--columns", "-,A"], "BadCsv 1 2", 'visits.csv, line 1, column A: "40000" is outside the type SMALLINT'),
-    (b"x,y\n1,2\n", ["--columns", "B,C"], "NoSuchColumn 2", '--columns, byte 2: there is no column "C": the table has A, B'),
-    (b"x,y\n1,2\n", ["--columns", "B,-,,A"], "NoSuchColumn 4", '--columns, byte 4: there is no column "": the table has A, B'),
+    (b"x,y\n1,2\n", ["--columns", "B,C"], "NoSuchColumn 2", 't: --columns, byte 2: there is no column "C": the table has A, B'),
+    (b"x,y\n1,2\n", ["--columns", "B,-,,A"], "NoSuchColumn 4", 't: --columns, byte 4: there is no column "": the table has A, B'),
     (b"A,C\n", [], "BadCsv 1 2", 'visits.csv, line 1, field 2: "C" is not a column of the table, which has A, B: name the fields by --columns'),
     (b"A,a\n", [], "BadCsv 1 2", 'visits.csv, line 1, field 2: "a" is there for the second time'),
     (b"1,2\n+5,2\n", ["--no-header"], "BadCsv 2 1", 'visits.csv, line 2, column A: "+5" is not a whole number: a number has no plus sign'),
     (b"1,2\n1, 5\n", ["--no-header"], "BadCsv 2 2", 'visits.csv, line 2, column B: " 5" is not a whole number: a field has no spaces'),
-    (b"1,2\nnull,5\n", ["--no-header"], "BadCsv 2 1", 'visits.csv, line 2, column A: "null" is not a whole number; if it is a null, say so by --null'),
-    (b'1,2\n"",5\n', ["--no-header"], "BadCsv 2 1", 'visits.csv, line 2, column A: "" is not a whole number: a null is an empty field without quotes, or NULL'),
+    (b"1,2\nnull,5\n", ["--no-header"], "BadCsv 2 1", 'visits.csv, line 2, column A: "null" is not a whole number; if it is a null, say --null \'null\''),
+    (b'1,2\n"",5\n', ["--no-header"], "BadCsv 2 1", 'visits.csv, line 2, column A: "" is not a whole number: a null is an empty field without quotes, or NULL; if this is one too, say --null \'\''),
     (b"A,B\n1,2\n", ["--no-header"], "BadCsv 1 1", 'visits.csv, line 1, column A: this line has the names of columns: leave --no-header out'),
     (b"1,2\n", [], "BadCsv 1 1", 'visits.csv, line 1, field 1: "1" is not a column of the table, which has A, B: if the first line is a row, say --no-header'),
-    (b"1,2\ncaf\xc3\xa9,5\n", ["--no-header"], "BadCsv 2 1", 'visits.csv, line 2, column A: "caf\u00e9" is not a whole number'),
-    (b"1,2\n" + b"x" * 39 + b"\xc3\xa9,5\n", ["--no-header"], "BadCsv 2 1", 'visits.csv, line 2, column A: "' + "x" * 39 + '" is not a whole number'),
+    (b"1,2\ncaf\xc3\xa9,5\n", ["--no-header"], "BadCsv 2 1", 'visits.csv, line 2, column A: "caf\u00e9" is not a whole number: write a number for each text'),
+    (b"1,2\n" + b"x" * 39 + b"\xc3\xa9,5\n", ["--no-header"], "BadCsv 2 1", 'visits.csv, line 2, column A: "' + "x" * 39 + '".. is not a whole number: write a number for each text'),
     (b"A,C,B\n", [], "BadCsv 1 0", 'visits.csv, line 1: the line has 3 fields, and the table has 2 columns, A, B; "C" is not one of them; name the fields by --columns, as --columns A,-,B'),
     (b'"b"\n', [], "BadCsv 1 0", "visits.csv, line 1: the line has 1 field, and the table has 2 columns, A, B; A is missing; name the fields by --columns, as --columns B"),
     (b"x,y,z\n", [], "BadCsv 1 0", "visits.csv, line 1: the line has 3 fields, and the table has 2 columns, A, B"),
@@ -256,7 +256,7 @@ def lines_that_have_to_be_whole(room):
         room.put("visits.csv", b"A,B\n1,2\n" + last)
         room.refused("import", "--whole-lines", "t", "visits.csv", line="refused BadCsv 3 0", sentence=f"visits.csv, line 3: {sentence}")
     room.put("visits.csv", b"A,B\nx,2\n3")
-    room.refused("import", "--whole-lines", "t", "visits.csv", line="refused BadCsv 2 1", sentence='visits.csv, line 2, column A: "x" is not a whole number')
+    room.refused("import", "--whole-lines", "t", "visits.csv", line="refused BadCsv 2 1", sentence='visits.csv, line 2, column A: "x" is not a whole number: write a number for each text')
     room.put("visits.csv", b"A,B\n" + b"7" * 1_048_577)
     room.refused("import", "--whole-lines", "t", "visits.csv", line="refused LineTooLong", sentence="visits.csv, line 2: the line has more than 1,048,576 bytes")
 
@@ -270,7 +270,7 @@ def a_second_heading_says_so(room):
         room.put("visits.csv", text)
         room.refused("import", "t", "visits.csv", line=f"refused BadCsv {place}", sentence=f"visits.csv, line {line}, column {column}: {again}")
     room.put("visits.csv", b"A,B\n1,2\nA,x\n")
-    room.refused("import", "t", "visits.csv", line="refused BadCsv 3 1", sentence='visits.csv, line 3, column A: "A" is not a whole number')
+    room.refused("import", "t", "visits.csv", line="refused BadCsv 3 1", sentence='visits.csv, line 3, column A: "A" is not a whole number: write a number for each text')
 
 
 def batches_have_65536_rows_and_the_last_one_what_is_left(room):

@@ -144,7 +144,8 @@ def a_busy_file_is_judged_before_it_is_told_busy(room):
             (held, ("import", "--no-header", "--batch", "0.1", "t", "one"), "refused Busy"),
             (held, ("merge", "t", "t", "bad"), "refused BadMagic"),
             (held, ("merge", "t", "t"), "refused Busy"),
-            (held, ("merge", "t", "o"), "refused Busy"),
+            (held, ("merge", "--replace", "t", "o"), "refused Busy"),
+            (held, ("merge", "t", "o"), "refused Exists"),
         ]
         room.put("one", b"7,7\n")
         room.make("o", rows=b"7,7\n")
@@ -213,7 +214,7 @@ def a_folder_that_can_not_be_synced_is_told_by_each_command_that_writes_a_file(r
         ("delete-rows", "t", "2.1", "0", "0"),
         ("apply", "t", "v"),
         ("forget", "t"),
-        ("merge", "t", "o"),
+        ("merge", "--replace", "t", "o"),
         ("merge", "t", "t", "v"),
     ):
         for name in ("t", "v"):
@@ -267,7 +268,7 @@ def a_file_of_another_disk_is_not_the_output(room):
     room.make("two", rows=b"2,20\n")
     os.mkdir(room.path("a"))
     os.mkdir(room.path("b"))
-    script = 'mount -t tmpfs none a && mount -t tmpfs none b && cp one a/t && cp two b/t && stat -c %i a/t b/t > numbers && "$0" merge a/t b/t && cp a/t merged'
+    script = 'mount -t tmpfs none a && mount -t tmpfs none b && cp one a/t && cp two b/t && stat -c %i a/t b/t > numbers && "$0" merge --replace a/t b/t && cp a/t merged'
     if shutil.which("unshare") is None:
         raise Lacking("unshare is not installed")
     done = subprocess.run(["unshare", "-m", "sh", "-c", script, room.program], cwd=room.folder, capture_output=True, timeout=120)

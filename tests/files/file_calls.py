@@ -21,7 +21,7 @@ COMMANDS = (
     ("apply", "t", "v"),
     ("forget", "t"),
     ("merge", "t", "t", "v"),
-    ("merge", "t", "v"),
+    ("merge", "--replace", "t", "v"),
 )
 
 

@@ -49,7 +49,7 @@ def a_change_that_changes_nothing_leaves_the_file_and_no_lock(room):
 def a_refusal_leaves_the_file_and_no_lock(room):
     held = room.make()
     room.refused("delete", "t", "A = ", line="refused Syntax 4")
-    room.refused("delete-rows", "t", "1.1", "2", "1", line="refused BadRange 0", sentence="the range ends before it starts")
+    room.refused("delete-rows", "t", "1.1", "2", "1", line="refused BadRange 0", sentence="t: the range ends before it starts")
     room.refused("import", "--no-header", "--batch", "1.1", "t", "-", given=b"1,10\n", line="refused Conflict 1.1", sentence="t: this has batch 1.1 already, with other rows")
     room.refused("import", "--no-header", "--batch", "0.1", "t", "-", given=b"1,10\n", line="refused BadName")
     room.refused("import", "--no-header", "--batch", "1.4294967295", "t", "-", given=rows_text(65_537), line="refused NumbersSpent")
@@ -257,7 +257,7 @@ def a_file_that_may_not_be_written_is_a_failed_write(room):
         ("delete-rows", "t", "1.1", "0", "0"),
         ("delete-rows", "--held", "t", "1.1", "0", "0"),
         ("apply", "t", "more"),
-        ("merge", "t", "more"),
+        ("merge", "--replace", "t", "more"),
         ("merge", "t", "t", "more"),
     ):
         room.refused(*words, given=b"3,40\n", line="refused WriteFault", sentence=f"t: {denied}", **how)
@@ -267,6 +267,7 @@ def a_file_that_may_not_be_written_is_a_failed_write(room):
     room.refused("import", "--no-header", "--batch", "1.1", "t", "-", given=b"9,9\n", line="refused Conflict 1.1", **how)
     room.refused("delete", "t", "C = 1", line="refused NoSuchColumn 0", **how)
     room.refused("merge", "t", "more", "empty", line="refused Truncated 0", **how)
+    room.refused("merge", "t", "more", line="refused Exists", **how)
     room.refused("merge", "t", "t", "empty", line="refused Truncated 0", **how)
     assert room.get("t") == held and room.names() == there
     # Reading needs no such right.

@@ -97,7 +97,7 @@ def a_caret_is_below_the_word_at_fault_in_each_line_of_a_query(room):
         ("SELECT COUNT(*)\nFROM T\nWHERE X = 1", 29, "WHERE X = 1", 6),
         ("SELECT COUNT(*)\nFROM T\n\n WHERE A = 1\n  AND X = 1", 43, "  AND X = 1", 6),
     ):
-        wanted = f'refused NoSuchColumn {at}\nbyte {at}: there is no column "X": the table has A, B\n{line}\n{" " * before}^\n'
+        wanted = f'refused NoSuchColumn {at}\nt: byte {at}: there is no column "X": the table has A, B\n{line}\n{" " * before}^\n'
         shown = shown_by(room, "query", "t", sql).decode()
         assert shown == wanted, f"{sql!r} shows {shown!r}, not {wanted!r}"
 

@@ -63,7 +63,7 @@ def each_command_says_of_a_folder_what_it_says_of_a_file(room):
             options = [word for word in words[1:] if word.startswith("--")]
             said = [room.ok(words[0], *options, file, *words[1 + len(options) :]) for file in ("t", "d")]
         assert said[0] == said[1], f"{step} said {said}"
-        room.ok("merge", "--quiet", "m", "d")
+        room.ok("merge", "--quiet", "--replace", "m", "d")
         assert room.get("m") == room.get("t"), f"after {step} the folder merges to other bytes than the file"
     all_are_named(room)
     room.put("s", room.ok("summary", "o"))
@@ -100,8 +100,8 @@ def refusals_of_a_folder_are_those_of_a_file(room):
     make_folder(room)
     before = parts_of(room)
     room.refused("delete", "d", "A = ", line="refused Syntax 4")
-    room.refused("delete", "d", "C = 1", line="refused NoSuchColumn 0", sentence='byte 0: there is no column "C": the table has A, B')
-    room.refused("delete-rows", "d", "1.1", "2", "1", line="refused BadRange 0", sentence="the range ends before it starts")
+    room.refused("delete", "d", "C = 1", line="refused NoSuchColumn 0", sentence='d: byte 0: there is no column "C": the table has A, B')
+    room.refused("delete-rows", "d", "1.1", "2", "1", line="refused BadRange 0", sentence="d: the range ends before it starts")
     room.refused("delete-rows", "d", "0.1", "1", "1", line="refused BadName")
     room.refused("delete-rows", "--held", "d", "0.1", "2", "1", line="refused BadName")
     room.refused("delete-rows", "--held", "d", "7.7", "2", "1", line="refused BadRange 0")

@@ -70,7 +70,7 @@ def a_quiet_command_still_says_why_it_is_refused(room):
             (("delete", "--quiet", name, "A ="), "refused Syntax 3"),
             (("delete-rows", "--quiet", name, "1.1", "1", "0"), "refused BadRange 0"),
             (("apply", "--quiet", name, "none"), "refused ReadFault"),
-            (("merge", "--quiet", "m", name, "none"), "refused ReadFault"),
+            (("merge", "--quiet", "--replace", "m", name, "none"), "refused ReadFault"),
             (("delete-rows", "--quiet", "--held", name, "1.1", "1", "0"), "refused BadRange 0"),
             (("spread", "--quiet", name, "m", "m"), "refused Exists"),
         ):

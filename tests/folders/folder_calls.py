@@ -112,7 +112,7 @@ def each_call_of_a_command_on_a_folder_fails_and_kills_and_nothing_is_lost(room)
             command.judge(ended)
         tries.tell()
         tried.append(tries)
-    each_kind_was_tried(tried, "ftruncate", "fchmod")
+    each_kind_was_tried(tried, "ftruncate")
 
 
 TESTS = [each_call_of_a_command_on_a_folder_fails_and_kills_and_nothing_is_lost]

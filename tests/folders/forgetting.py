@@ -27,7 +27,7 @@ def half_dead(room, folder="d"):
     make_folder(room, folder, loads=4)
     room.ok("delete-rows", folder, "1.2", "0", "65535")
     room.ok("delete", folder, "A = 4 OR B = 4 OR A = 1")
-    room.ok("merge", "--quiet", "all", folder)
+    room.ok("merge", "--quiet", "--replace", "all", folder)
     room.ok("forget", "all", prints=b"ok batches=2 rows=4\n")
     return room.ok("dump", "--names", folder), room.get("all")
 
@@ -49,10 +49,10 @@ def a_folder_forgets_what_its_file_forgets(room):
             room.ok("delete-rows", "d", name, "0", str(pick.choice([0, 1, 65_535])))
         if turn % 5 == 4:
             rows = room.ok("dump", "--names", "d")
-            room.ok("merge", "--quiet", "m", "d")
+            room.ok("merge", "--quiet", "--replace", "m", "d")
             said = room.ok("forget", "m")
             room.ok("forget", "d", prints=said)
-            room.ok("merge", "--quiet", "n", "d")
+            room.ok("merge", "--quiet", "--replace", "n", "d")
             assert room.get("m") == room.get("n") and room.ok("dump", "--names", "d") == rows
             batches = int(re.match(rb"ok batches=(\d+) ", said)[1])
             dropped += batches
@@ -131,7 +131,7 @@ def each_failed_call_of_a_forget_loses_nothing_and_is_told(room):
             else:
                 assert now == [name_of(left)], f"at {at} it ended well, and there are {now}"
             room.ok("forget", "d")
-            room.ok("merge", "--quiet", "m", "d")
+            room.ok("merge", "--quiet", "--replace", "m", "d")
             assert room.get("m") == left and room.ok("dump", "--names", "d") == rows, f"after {at} the next forget leaves something else"
     print(f"each_failed_call_of_a_forget_loses_nothing_and_is_told: {tried} calls failed in turn")
     assert tried > 30, f"only {tried} calls were tried"
@@ -182,7 +182,7 @@ def a_forget_that_meets_a_pack_a_load_and_a_delete_reads_anew_and_loses_nothing(
         for words in others:
             rest = {"import": ("-",), "delete": ("A = 3 OR B = 3",), "delete-rows": ("8.8", "1", "1")}.get(words[0], ())
             room.ok(*words, "d", *rest, given=b"8,8\n8,8\n" if words[0] == "import" else b"")
-        room.ok("merge", "--quiet", "m", "d")
+        room.ok("merge", "--quiet", "--replace", "m", "d")
         now = room.ok("dump", "--names", "d")
         os.kill(process, signal.SIGCONT)
         out, err = forgetting.communicate(timeout=60)
@@ -190,7 +190,7 @@ def a_forget_that_meets_a_pack_a_load_and_a_delete_reads_anew_and_loses_nothing(
         assert (forgetting.returncode, out, err) == (0, said, b""), f"beside {others} it said {out!r} and {err!r}"
         assert room.ok("dump", "--names", "d") == now
         room.ok("forget", "--quiet", "m")
-        room.ok("merge", "--quiet", "n", "d")
+        room.ok("merge", "--quiet", "--replace", "n", "d")
         assert room.get("m") == room.get("n"), f"beside {others} it left dead batches"
         only_parts(room)
         os.remove(room.path("trace"))
@@ -205,7 +205,7 @@ def commands_that_meet_lose_nothing_in_any_order(room):
     for words in (*adds, ("pack", "d"), ("pack", "--all", "d"), ("forget", "d")):
         half_dead(room)
         # In a file the order makes no difference: the command, and then the forget.
-        room.ok("merge", "--quiet", "m", "d")
+        room.ok("merge", "--quiet", "--replace", "m", "d")
         drawn = "import" in words and "--batch" not in words
         if words in adds and not drawn:
             room.ok(*("m" if word == "d" else word for word in words))
@@ -218,7 +218,7 @@ def commands_that_meet_lose_nothing_in_any_order(room):
         ended = [(one.wait(60), one.stderr.read()) for one in pair]
         assert ended == [(0, b""), (0, b"")], f"{words} and a forget ended so: {ended}"
         room.ok("forget", "d")
-        room.ok("merge", "--quiet", "n", "d")
+        room.ok("merge", "--quiet", "--replace", "n", "d")
         if drawn:
             assert count(room) == count(room, "m") + 1
         else:

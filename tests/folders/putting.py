@@ -6,6 +6,7 @@ import random
 import re
 import shutil
 import signal
+import stat
 import subprocess
 import time
 
@@ -365,6 +366,37 @@ def a_folder_without_the_right_to_write_is_a_failed_write(room):
     only_parts(room)
 
 
+def mode_of(path):
+    return stat.S_IMODE(os.stat(path).st_mode)
+
+
+def a_part_has_the_mode_of_the_part_with_the_least_name(room):
+    """Whatever the umask is. With no part a file is made as the umask says, and a name that is no part's counts for nothing."""
+    room.ok("create", "d/", "T", "A", "SMALLINT", umask=0o027)
+    assert {mode_of(room.path(f"d/{name}")) for name in parts_of(room)} == {0o640}
+    room.put("d/0.lanes", b"")
+    os.chmod(room.path("d/0.lanes"), 0o777)
+    room.ok("create", "t", "T", "A", "SMALLINT")
+    room.ok("import", "--no-header", "--batch", "7.7", "t", "-", given=b"7\n")
+    for at, (mode, umask) in enumerate(((0o644, 0o077), (0o664, 0o022), (0o600, 0), (0o444, 0o077))):
+        for words, given in (
+            (("import", "--no-header", "d", "-"), b"%d\n" % at),
+            (("import", "--no-header", "--batch", f"5.{at + 1}", "d", "-"), b"%d\n" % at),
+            (("delete", "d", f"A = {at}"), b""),
+            (("apply", "d", "t"), b""),
+            (("pack", "--all", "d"), b""),
+            (("import", "--no-header", "d", "-"), b"9\n"),
+            (("forget", "d"), b""),
+        ):
+            before = parts_of(room)
+            for name in before:
+                os.chmod(room.path(f"d/{name}"), 0o640)
+            os.chmod(room.path(f"d/{before[0]}"), mode)
+            room.ok(*words, given=given, umask=umask)
+            for name in set(parts_of(room)) - set(before):
+                assert mode_of(room.path(f"d/{name}")) == mode, f"{words} under {umask:o} made a part of mode {mode_of(room.path(f'd/{name}')):o}, not {mode:o}"
+
+
 def a_folder_that_has_no_room_is_as_it_was(room):
     make_folder(room)
     before = parts_of(room)
@@ -656,6 +688,7 @@ TESTS = [
     a_folder_that_can_not_be_locked_is_read_and_not_packed,
     a_folder_that_others_have_locked_is_busy_after_ten_seconds,
     a_folder_without_the_right_to_write_is_a_failed_write,
+    a_part_has_the_mode_of_the_part_with_the_least_name,
     a_folder_that_has_no_room_is_as_it_was,
     what_a_kill_leaves_is_swept_and_no_part_is_half,
     a_temporary_that_is_held_is_not_swept,

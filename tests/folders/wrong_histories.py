@@ -4,20 +4,32 @@ import os
 
 import pairs
 from folder_calls import Command, make_starts
-from injecting import is_end_refused
+from injecting import is_end_refused, wrong_program
 from ledger import Ledger, values_of
 from parts import make_folder, parts_of
-from storm import Storm
+from storm import Storm, rows_text
 from turns import PUTS, READS, RELIES, Process, has_done
+
+
+#: A pack that drops a row.
+PACK = """
+if [ "$1" = pack ]; then
+    lanes delete d 'A = 4'
+fi"""
+
+
+def fault_of(judge, *words):
+    """What a judge says is wrong, or nothing."""
+    try:
+        judge(*words)
+    except AssertionError as fault:
+        return str(fault)
+    return ""
 
 
 def is_refused(judge, *words):
     """Whether a judge says that something is wrong."""
-    try:
-        judge(*words)
-    except AssertionError:
-        return True
-    return False
+    return bool(fault_of(judge, *words))
 
 
 def an_end_of_a_command_that_is_wrong_is_refused(room):
@@ -52,6 +64,18 @@ def an_end_of_a_command_that_is_wrong_is_refused(room):
         assert not is_end_refused(command, *right), f"{right} is refused"
 
 
+def a_command_that_does_its_work_twice_when_it_is_sent_again_is_refused(room):
+    room.put("rows", b"8,80\n")
+    make_starts(room)
+    command = Command(room, ("import", "--no-header", "--batch", "8.8", "d", "rows"))
+    for more, fault in ((), ""), (("import", "--no-header", "--batch", "8.9", "d", "rows"), "the same command leaves"):
+        command.prepare()
+        for words in (command.words, more)[: 1 + bool(more)]:
+            room.ok(*words)
+        found = fault_of(command.go_on, command.after, "a call")
+        assert found.startswith(f"after a call {fault}" if fault else "") and bool(found) == bool(fault), f"{more}: {found}"
+
+
 def two_commands_that_end_as_in_no_order_are_refused(room):
     """The ends are right, and a row is lost, or comes twice; or a command is refused as it is in no order."""
     pairs.put_inputs(room)
@@ -74,6 +98,14 @@ def two_commands_that_end_as_in_no_order_are_refused(room):
     # What an order ends with is still no refusal but of a conflict.
     wrong = ((1, b"refused Damaged"), ok, pairs.rows_of(room))
     assert is_refused(pairs.judge, room, pair, wrong, {wrong}), wrong
+
+
+def a_pack_that_drops_a_row_after_two_commands_is_refused(room):
+    wrong = wrong_program(room, PACK)
+    pairs.put_inputs(wrong)
+    pair = (("import", "--no-header", "--batch", "8.8", "d", "rows"), ("delete", "d", "A = 3"))
+    ends = pairs.in_turn(wrong, pair)
+    assert is_refused(pairs.judge, wrong, pair, next(iter(ends)), ends), "a row that a pack drops is not seen"
 
 
 def a_part_that_was_made_and_is_not_on_the_disk_is_refused(_room):
@@ -105,9 +137,24 @@ def a_storm_has_each_fault_of_what_is_said_and_read(room):
     assert parts_of(room) and values_of(7)
 
 
+def a_storm_sees_rows_that_nobody_loaded(room):
+    """Both readings see them, the one that counts and the one that reads the rows."""
+    make_folder(room, loads=0)
+    room.ok("import", "--no-header", "d", "-", given=rows_text(7))
+    seen = set()
+    for reader in range(20):
+        storm = Storm(room, seconds=1)
+        storm.read(reader)
+        seen |= {fault.split(" ")[2] for fault in storm.faults[:1]}
+    assert len(seen) == 2 and "counts" in seen, seen
+
+
 TESTS = [
     an_end_of_a_command_that_is_wrong_is_refused,
+    a_command_that_does_its_work_twice_when_it_is_sent_again_is_refused,
     two_commands_that_end_as_in_no_order_are_refused,
+    a_pack_that_drops_a_row_after_two_commands_is_refused,
     a_part_that_was_made_and_is_not_on_the_disk_is_refused,
     a_storm_has_each_fault_of_what_is_said_and_read,
+    a_storm_sees_rows_that_nobody_loaded,
 ]

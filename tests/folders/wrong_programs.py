@@ -10,7 +10,7 @@ from storm import Storm, in_threads
 PACK = """
 if [ "$1" = pack ]; then
     rm -f $room/m
-    lanes merge --quiet $room/m d
+    lanes merge --quiet --replace $room/m d
     sleep 0.1
     rm d/*.lanes
     cp $room/m d/$(sha512sum < $room/m | cut -c 1-32).lanes
@@ -21,7 +21,7 @@ fi"""
 #: A forget that removes all parts that are there once it has made its own, also those that it has not read.
 FORGET = """
 if [ "$1" = forget ]; then
-    lanes merge --quiet $room/m d
+    lanes merge --quiet --replace $room/m d
     lanes forget $room/m
     sleep 1.2
     rm d/*.lanes

@@ -44,7 +44,7 @@ RANGES = [(1, 7, 0, 65_535), (2, 1, 0, 9), (3, 1, 1, 9)]
 DELETED = ALL_THREE[:-8] + len(RANGES).to_bytes(8, "little") + b"".join(origin.to_bytes(4, "little") + number.to_bytes(4, "little") + first.to_bytes(2, "little") + last.to_bytes(2, "little") for origin, number, first, last in RANGES)
 
 # What is said of a folder where a command takes none.
-USAGE = b"\n\nUsage: lanes <COMMAND>\n\nFor more information, try '--help'.\n"
+USAGE = b"\n\nUsage: lanes merge [OPTIONS] <OUT> <IN>...\n\nFor more information, try '--help'.\n"
 MERGE_FAULT = b"error: OUT is a folder: lanes apply FOLDER FILE.. adds files to it, and a name that ends in / makes a new one" + USAGE
 
 # What is said to who types queries.
@@ -120,7 +120,7 @@ CASES = [
     Case("help names the commands in groups, and the pages", ["--help"], 0, [b"Usage: lanes <COMMAND>", *(f"\n  {name} ".encode() for name in COMMANDS), b"One table, in a file or a folder:\n", b"Between sites:\n", b"Over many machines:\n", b"Scripts:\n", b"--version", b"docs/COMMANDS.md", b"docs/SQL.md"]),
     Case("help of a command shows an example and names the page of the script language", ["run", "--help"], 0, [b"Usage: lanes run [OPTIONS] [SCRIPT]", b"--explain", b"table 2 T A SMALLINT", b"docs/FORMATS.md"]),
     Case("help of merge says what becomes of the file that is written", ["merge", "--help"], 0, [b"Usage: lanes merge [OPTIONS] <OUT> <IN>...", b"OUT is replaced as a whole", b"stays as it was if the merge is refused"]),
-    Case("the version is a line", ["--version"], 0, b"lanes 0.12.0\n"),
+    Case("the version is a line", ["--version"], 0, b"lanes 0.12.1\n"),
     Case(
         "refused lines are explained where that is asked for, and the replies stay as they are",
         ["run", "--explain"],
@@ -195,10 +195,10 @@ CASES = [
         b"COUNT(*)\n2\nA\n7\n",
         files={"t": BOTH},
     ),
-    Case("the first refusal ends them", ["query", "t", "SELECT SUM(A) FROM T", "SELECT B FROM T GROUP BY B", "SELECT"], 1, b"SUM(A)\n7\n", b"refused NoSuchColumn 7\nquery 2, byte 7: there is no column \"B\": the table has A\n", files={"t": ONE_ROW}),
-    Case("an empty query is a fault at its beginning", ["query", "t", ""], 1, err=b"refused Syntax 0\nbyte 0: the query is empty\n", files={"t": ONE_ROW}),
-    Case("a query that begins with a hyphen is a query after two hyphens", ["query", "t", "--", "-x"], 1, err=b"refused Syntax 0\nbyte 0: \"-\" is not possible here; expected SELECT\n", files={"t": ONE_ROW}),
-    Case("another table's query is refused", ["query", "t", "SELECT SUM(A) FROM U"], 1, err=b"refused NoSuchTable\nthere is no table \"U\": the table here is T\n", files={"t": ONE_ROW}),
+    Case("the first refusal ends them", ["query", "t", "SELECT SUM(A) FROM T", "SELECT B FROM T GROUP BY B", "SELECT"], 1, b"SUM(A)\n7\n", b"refused NoSuchColumn 7\nt: query 2, byte 7: there is no column \"B\": the table has A\n", files={"t": ONE_ROW}),
+    Case("an empty query is a fault at its beginning", ["query", "t", ""], 1, err=b"refused Syntax 0\nt: byte 0: the query is empty\n", files={"t": ONE_ROW}),
+    Case("a query that begins with a hyphen is a query after two hyphens", ["query", "t", "--", "-x"], 1, err=b"refused Syntax 0\nt: byte 0: \"-\" is not possible here; expected SELECT\n", files={"t": ONE_ROW}),
+    Case("another table's query is refused", ["query", "t", "SELECT SUM(A) FROM U"], 1, err=b"refused NoSuchTable\nt: there is no table \"U\": the table here is T\n", files={"t": ONE_ROW}),
     Case("a file is judged before a query", ["query", "t", "SELECT"], 1, err=b"refused Truncated 3\nt, byte 3: the bytes end too early\n", files={"t": b"FLC"}),
     Case("an answer that can't be written is a failed write", ["query", "t", "SELECT SUM(A) FROM T"], 1, err=b"refused WriteFault\nlanes query t: standard output: no space is left on the device\n", files={"t": ONE_ROW}, output_to="full"),
     Case(
@@ -206,13 +206,13 @@ CASES = [
         ["query", "t", "SELECT SUM(A) FROM T", "SELECT COUNT(B) FROM T"],
         1,
         b"SUM(A)\n7\n",
-        b"refused NoSuchColumn 13\nquery 2, byte 13: there is no column \"B\": the table has A\nSELECT COUNT(B) FROM T\n             ^\n",
+        b"refused NoSuchColumn 13\nt: query 2, byte 13: there is no column \"B\": the table has A\nSELECT COUNT(B) FROM T\n             ^\n",
         files={"t": ONE_ROW},
         errors_to="terminal",
     ),
-    Case("a query that ends too early has the caret at its end", ["query", "t", "SELECT"], 1, err=b"refused Syntax 6\nbyte 6: the text ends too early; expected a column or a set function\nSELECT\n      ^\n", files={"t": ONE_ROW}, errors_to="terminal"),
-    Case("the caret stands in the line of the place", ["query", "t", "SELECT A\nFROM T"], 1, err=b"refused NotGrouped 7\nbyte 7: \"A\" must be in GROUP BY or inside a set function\nSELECT A\n       ^\n", files={"t": ONE_ROW}, errors_to="terminal"),
-    Case("a refusal that names no place of a query has no caret", ["query", "t", "SELECT SUM(A) FROM U"], 1, err=b"refused NoSuchTable\nthere is no table \"U\": the table here is T\n", files={"t": ONE_ROW}, errors_to="terminal"),
+    Case("a query that ends too early has the caret at its end", ["query", "t", "SELECT"], 1, err=b"refused Syntax 6\nt: byte 6: the text ends too early; expected a column or a set function\nSELECT\n      ^\n", files={"t": ONE_ROW}, errors_to="terminal"),
+    Case("the caret stands in the line of the place", ["query", "t", "SELECT A\nFROM T"], 1, err=b"refused NotGrouped 7\nt: byte 7: \"A\" must be in GROUP BY or inside a set function\nSELECT A\n       ^\n", files={"t": ONE_ROW}, errors_to="terminal"),
+    Case("a refusal that names no place of a query has no caret", ["query", "t", "SELECT SUM(A) FROM U"], 1, err=b"refused NoSuchTable\nt: there is no table \"U\": the table here is T\n", files={"t": ONE_ROW}, errors_to="terminal"),
     Case("query wants a file and a query", ["query", "t"], 2, err=[b"SQL"], files={"t": ONE_ROW}),
     Case("a refused file is explained in a sentence on a terminal too", ["check", "none"], 1, err=b"refused ReadFault\nnone: no such file or folder\n", errors_to="terminal"),
     Case("a refused merge too", ["merge", "out", "t", "u"], 1, err=b"refused Truncated 0\nu: this is empty: did the command before it fail?\n", files={"t": ONE_ROW, "u": b""}, errors_to="terminal"),
@@ -221,11 +221,11 @@ CASES = [
     Case("the third query is answered too", ["query", "t", "SELECT SUM(A) FROM T", "SELECT COUNT(*) FROM T", "SELECT MIN(A) FROM T"], 0, b"SUM(A)\n7\nCOUNT(*)\n1\nMIN(A)\n7\n", files={"t": ONE_ROW}),
     Case("a table is created", ["create", "t", "t", "a", "smallint"], 0, b"ok\n", writes={"t": file_of(b"T")}),
     Case("a file that is there isn't created", ["create", "t", "t", "a", "smallint"], 1, err=b"refused Exists\nt: there is a file of this name already\n", files={"t": b""}, writes={"t": b""}),
-    Case("a keyword is no table's name", ["create", "t", "select", "a", "smallint"], 1, err=b'refused BadSchema\n"select" is a keyword of the query language and can\'t be a name\n', writes={"t": None}),
-    Case("nor a column's", ["create", "t", "T", "a", "smallint", "min", "bigint"], 1, err=b'refused BadSchema\n"min" is a keyword of the query language and can\'t be a name\n', writes={"t": None}),
-    Case("a name begins with a letter", ["create", "t", "T", "1a", "smallint"], 1, err=b'refused BadSchema\n"1a" is not a name: a name is a letter and up to 63 letters, digits or _\n', writes={"t": None}),
-    Case("two columns have two names", ["create", "t", "T", "a", "smallint", "A", "bigint"], 1, err=b'refused BadSchema\ntwo columns have the name "A"\n', writes={"t": None}),
-    Case("a table has at most 32 columns", ["create", "t", "T", *(word for column in range(33) for word in (f"C{column}", "bigint"))], 1, err=b"refused BadSchema\na table has 1 to 32 columns, and these are 33\n", writes={"t": None}),
+    Case("a keyword is no table's name", ["create", "t", "select", "a", "smallint"], 1, err=b'refused BadSchema\nt: "select" is a keyword of the query language and can\'t be a name\n', writes={"t": None}),
+    Case("nor a column's", ["create", "t", "T", "a", "smallint", "min", "bigint"], 1, err=b'refused BadSchema\nt: "min" is a keyword of the query language and can\'t be a name\n', writes={"t": None}),
+    Case("a name begins with a letter", ["create", "t", "T", "1a", "smallint"], 1, err=b'refused BadSchema\nt: "1a" is not a name: a name is a letter and up to 63 letters, digits or _\n', writes={"t": None}),
+    Case("two columns have two names", ["create", "t", "T", "a", "smallint", "A", "bigint"], 1, err=b'refused BadSchema\nt: two columns have the name "A"\n', writes={"t": None}),
+    Case("a table has at most 32 columns", ["create", "t", "T", *(word for column in range(33) for word in (f"C{column}", "bigint"))], 1, err=b"refused BadSchema\nt: a table has 1 to 32 columns, and these are 33\n", writes={"t": None}),
     Case("an unknown type is a fault of the command line", ["create", "t", "t", "a", "text"], 2, err=[b"each column is a name and its type"], writes={"t": None}),
     Case("a column without a type is one too", ["create", "t", "t", "a", "smallint", "b"], 2, err=[b"each column is a name and its type"], writes={"t": None}),
     Case("rows are imported from standard input", ["import", "--no-header", "--batch", "2.1", "t", "-"], 0, b"ok batches=1 new=1 rows=1 first=2.1\n", input=b"7\n", files={"t": ONE_ROW}, writes={"t": BOTH, ".t.lanes-lock": None}),
@@ -239,30 +239,30 @@ CASES = [
     Case("fields are separated by another character if it is given", ["import", "--separator", ";", "--batch", "2.1", "t", "-"], 0, b"ok batches=1 new=1 rows=1 first=2.1\n", input=b"B;A\n8;7\n", files={"t": NO_PAIR}, writes={"t": ONE_PAIR}),
     Case("a tab is written with a backslash, or as itself", ["import", "--separator", "\\t", "--batch", "2.1", "t", "-"], 0, b"ok batches=1 new=1 rows=1 first=2.1\n", input=b"B\tA\n8\t7\n", files={"t": NO_PAIR}, writes={"t": ONE_PAIR}),
     Case("a comma is then part of a field", ["import", "--separator=;", "--no-header", "t", "v"], 1, err=b'refused BadCsv 1 2\nv, line 1, column B: "2," is not a whole number\n', files={"t": NO_PAIR, "v": b"1;2,\n"}, writes={"t": NO_PAIR}),
-    Case("a wrong number of fields is told by that separator", ["import", "--separator=;", "--no-header", "t", "v"], 1, err=b'refused BadCsv 1 0\nv, line 1: the line has 1 field, and the table has 2 columns; commas seem to separate its fields\n', files={"t": NO_PAIR, "v": b"1,2\n"}, writes={"t": NO_PAIR}),
+    Case("a wrong number of fields is told by that separator", ["import", "--separator=;", "--no-header", "t", "v"], 1, err=b'refused BadCsv 1 0\nv, line 1: the line has 1 field, and the table has 2 columns; commas seem to separate its fields: say --separator \',\'\n', files={"t": NO_PAIR, "v": b"1,2\n"}, writes={"t": NO_PAIR}),
     Case("a separator of two characters is a fault of the command line", ["import", "--separator", ";;", "t", "-"], 2, err=[b"C is one ASCII character"], files={"t": ONE_ROW}),
     Case("a separator that a number has is one too", ["import", "--separator", "-", "t", "-"], 2, err=[b"C is one ASCII character"], files={"t": ONE_ROW}),
     Case("a further word is a null if it is given", ["import", "--null", "NA", "--no-header", "--batch", "2.1", "t", "-"], 0, b"ok batches=1 new=1 rows=3 first=2.1\n", input=b'NA\n"NA"\nNULL\n', files={"t": ONE_ROW}),
-    Case("it is exactly that word", ["import", "--null", "NA", "--no-header", "t", "v"], 1, err=b'refused BadCsv 1 1\nv, line 1, column A: "na" is not a whole number; if it is a null, say so by --null\n', files={"t": ONE_ROW, "v": b"na\n"}, writes={"t": ONE_ROW}),
+    Case("it is exactly that word", ["import", "--null", "NA", "--no-header", "t", "v"], 1, err=b'refused BadCsv 1 1\nv, line 1, column A: "na" is not a whole number; if it is a null, say --null \'na\'\n', files={"t": ONE_ROW, "v": b"na\n"}, writes={"t": ONE_ROW}),
     Case("a word may have quotes of its own", ["import", "--null", '"7"', "--no-header", "--batch", "2.1", "t", "-"], 0, b"ok batches=1 new=1 rows=1 first=2.1\n", input=b'7\n', files={"t": ONE_ROW}, writes={"t": BOTH}),
     Case("a number of 31 digits is a word like another", ["import", "--null", "9" * 31, "--no-header", "--batch", "2.1", "t", "-"], 0, b"ok batches=1 new=1 rows=1 first=2.1\n", input=b"9" * 31 + b"\n", files={"t": ONE_ROW}),
     Case("one of 30 digits is none", ["import", "--null", "9" * 30, "t", "-"], 2, err=[b"WORD is a number"], files={"t": ONE_ROW}),
     Case("the fields are those that words name if they are given", ["import", "--columns", "B,-,a", "--batch", "2.1", "t", "-"], 0, b"ok batches=1 new=1 rows=1 first=2.1\n", input=b"x,y,z\n8,?,7\n", files={"t": NO_PAIR}, writes={"t": ONE_PAIR}),
-    Case("a word that names no column is refused with those that are there", ["import", "--columns", "A,-,C", "t", "-"], 1, err=b'refused NoSuchColumn 4\n--columns, byte 4: there is no column "C": the table has A, B\n', input=b"x,y,z\n", files={"t": NO_PAIR}, writes={"t": NO_PAIR}),
+    Case("a word that names no column is refused with those that are there", ["import", "--columns", "A,-,C", "t", "-"], 1, err=b'refused NoSuchColumn 4\nt: --columns, byte 4: there is no column "C": the table has A, B\n', input=b"x,y,z\n", files={"t": NO_PAIR}, writes={"t": NO_PAIR}),
     Case("the file is judged before that", ["import", "--columns", "C", "t", "-"], 1, err=[b"refused Truncated 0\n"], files={"t": b""}),
     Case("a row is no header", ["import", "--columns", "A,B", "t", "v"], 1, err=b"refused BadCsv 1 0\nv, line 1: this is a row and no header: with --no-header it is read as a row\n", files={"t": NO_PAIR, "v": b"7,8\n"}, writes={"t": NO_PAIR}),
     Case("a name twice is a fault of the command line", ["import", "--columns", "A,-,a", "t", "-"], 2, err=[b"NAMES has a name twice"], files={"t": NO_PAIR}, writes={"t": NO_PAIR}),
     Case("words without a name are one too", ["import", "--columns", "-,-", "t", "-"], 2, err=[b"NAMES has no name of a column"], files={"t": NO_PAIR}, writes={"t": NO_PAIR}),
     Case("help of import tells of its option", ["import", "--help"], 0, [b"--columns <NAMES>"]),
     Case("a number is no word for a null", ["import", "--null", "-99", "t", "-"], 2, err=[b"WORD is a number"], files={"t": ONE_ROW}),
-    Case("a field that is no number is refused with its place", ["import", "t", "v"], 1, err=b'refused BadCsv 3 1\nv, line 3, column A: "x" is not a whole number\n', files={"t": ONE_ROW, "v": b"A\n1\nx\n"}, writes={"t": ONE_ROW}),
+    Case("a field that is no number is refused with its place", ["import", "t", "v"], 1, err=b'refused BadCsv 3 1\nv, line 3, column A: "x" is not a whole number: write a number for each text\n', files={"t": ONE_ROW, "v": b"A\n1\nx\n"}, writes={"t": ONE_ROW}),
     Case("the file is judged before the rows", ["import", "t", "v"], 1, err=b"refused Truncated 0\nt: this is empty: did the command before it fail?\n", files={"t": b"", "v": b"x"}),
     Case("rows are deleted for which a condition is true", ["delete", "t", "A = 7"], 0, b"ok 2\n", files={"t": BOTH}),
-    Case("a condition of a column that isn't there is refused with those that are", ["delete", "t", "B = 7"], 1, err=b'refused NoSuchColumn 0\nbyte 0: there is no column "B": the table has A\n', files={"t": BOTH}, writes={"t": BOTH}),
+    Case("a condition of a column that isn't there is refused with those that are", ["delete", "t", "B = 7"], 1, err=b'refused NoSuchColumn 0\nt: byte 0: there is no column "B": the table has A\n', files={"t": BOTH}, writes={"t": BOTH}),
     Case("a condition that is true nowhere changes nothing", ["delete", "t", "A = 8"], 0, b"ok 0\n", files={"t": BOTH}, writes={"t": BOTH}),
-    Case("a condition that is none is refused", ["delete", "t", "A ="], 1, err=b"refused Syntax 3\nbyte 3: the text ends too early; expected a column or a whole number\n", files={"t": BOTH}, writes={"t": BOTH}),
+    Case("a condition that is none is refused", ["delete", "t", "A ="], 1, err=b"refused Syntax 3\nt: byte 3: the text ends too early; expected a column or a whole number\n", files={"t": BOTH}, writes={"t": BOTH}),
     Case("rows are deleted by name", ["delete-rows", "t", "2.1", "0", "0"], 0, b"ok\n", files={"t": BOTH}),
-    Case("a range that ends before it starts is refused", ["delete-rows", "t", "2.1", "1", "0"], 1, err=b"refused BadRange 0\nthe range ends before it starts\n", files={"t": BOTH}, writes={"t": BOTH}),
+    Case("a range that ends before it starts is refused", ["delete-rows", "t", "2.1", "1", "0"], 1, err=b"refused BadRange 0\nt: the range ends before it starts\n", files={"t": BOTH}, writes={"t": BOTH}),
     Case("an ordinal of more than five digits is a fault of the command line", ["delete-rows", "t", "2.1", "0", "000001"], 2, err=[b"FIRST and LAST are numbers of 1 to 5 digits"], files={"t": BOTH}, writes={"t": BOTH}),
     Case("an ordinal that is too great is a fault of the command line", ["delete-rows", "t", "2.1", "1", "65536"], 2, err=[b"FIRST and LAST are numbers"]),
     *FORGETS,
@@ -277,11 +277,11 @@ CASES = [
     Case("a condition may begin with a hyphen", ["dump", "--where", "-1 < A", "t"], 0, b"A\n7\n7\n", files={"t": BOTH}),
     Case("columns are dumped in the order of their names", ["dump", "--names", "--columns", "a,A", "t"], 0, b"BATCH,ORDINAL,A,A\n1.1,0,7,7\n2.1,0,7,7\n", files={"t": BOTH}),
     Case("an empty condition and an empty list are all rows and columns", ["dump", "--where", "", "--columns", "", "t"], 0, b"A\n7\n7\n", files={"t": BOTH}),
-    Case("a column that isn't there is not dumped", ["dump", "--columns", "A,B", "t"], 1, err=b'refused NoSuchColumn 2\n--columns, byte 2: there is no column "B": the table has A\n', files={"t": BOTH}),
-    Case("names of columns that begin with hyphens are names", ["dump", "--columns", "--x", "t"], 1, err=b'refused NoSuchColumn 0\n--columns, byte 0: there is no column "--x": the table has A\n', files={"t": BOTH}),
-    Case("two hyphens are one too", ["dump", "--columns", "--", "t"], 1, err=b'refused NoSuchColumn 0\n--columns, byte 0: there is no column "--": the table has A\n', files={"t": BOTH}),
-    Case("a dump's condition of a column that isn't there is refused", ["dump", "--where", "B = 7", "t"], 1, err=b'refused NoSuchColumn 0\n--where, byte 0: there is no column "B": the table has A\n', files={"t": BOTH}),
-    Case("a dump's condition that is none is refused before its columns are", ["dump", "--where", "A =", "--columns", "B", "t"], 1, err=b"refused Syntax 3\n--where, byte 3: the text ends too early; expected a column or a whole number\n", files={"t": BOTH}),
+    Case("a column that isn't there is not dumped", ["dump", "--columns", "A,B", "t"], 1, err=b'refused NoSuchColumn 2\nt: --columns, byte 2: there is no column "B": the table has A\n', files={"t": BOTH}),
+    Case("names of columns that begin with hyphens are names", ["dump", "--columns", "--x", "t"], 1, err=b'refused NoSuchColumn 0\nt: --columns, byte 0: there is no column "--x": the table has A\n', files={"t": BOTH}),
+    Case("two hyphens are one too", ["dump", "--columns", "--", "t"], 1, err=b'refused NoSuchColumn 0\nt: --columns, byte 0: there is no column "--": the table has A\n', files={"t": BOTH}),
+    Case("a dump's condition of a column that isn't there is refused", ["dump", "--where", "B = 7", "t"], 1, err=b'refused NoSuchColumn 0\nt: --where, byte 0: there is no column "B": the table has A\n', files={"t": BOTH}),
+    Case("a dump's condition that is none is refused before its columns are", ["dump", "--where", "A =", "--columns", "B", "t"], 1, err=b"refused Syntax 3\nt: --where, byte 3: the text ends too early; expected a column or a whole number\n", files={"t": BOTH}),
     Case("help of dump tells of its options", ["dump", "--help"], 0, [b"--where <COND>", b"--columns <NAMES>"]),
     Case(
         "a file is inspected as an object",
@@ -307,15 +307,15 @@ CASES = [
         }.items()
     ),
     *(
-        Case(f"the first refusal ends them as {form} too", ["query", "--format", form, "t", "SELECT SUM(A) FROM T", "SELECT B FROM T", "SELECT COUNT(*) FROM T"], 1, wanted, b'refused NoSuchColumn 7\nquery 2, byte 7: there is no column "B": the table has A\n', files={"t": BOTH})
+        Case(f"the first refusal ends them as {form} too", ["query", "--format", form, "t", "SELECT SUM(A) FROM T", "SELECT B FROM T", "SELECT COUNT(*) FROM T"], 1, wanted, b'refused NoSuchColumn 7\nt: query 2, byte 7: there is no column "B": the table has A\n', files={"t": BOTH})
         for form, wanted in {"csv": b"SUM(A)\n14\n", "json": b'{"SUM(A)":14}\n', "table": b"SUM(A)\n------\n    14\n"}.items()
     ),
     *(
         Case(f"a mean of -0.5 has its sign as {form}", ["query", "--format", form, "t", "SELECT AVG(A) AS M FROM T"], 0, wanted, files={"t": MEAN})
         for form, wanted in {"text": b"M\n-0.500000\n", "csv": b"M\n-0.500000\n", "json": b'{"M":-0.500000}\n', "table": b"        M\n---------\n-0.500000\n"}.items()
     ),
-    Case("a folder is not an offer, and its parts are", ["apply", "t", "d"], 1, err=b"refused ReadFault\nd: this is a folder: apply its parts, as OFFER/*.lanes\n", files={"t": ONE_ROW, **FOLDER}, writes={"t": ONE_ROW}),
-    Case("a folder is not one for a folder either", ["apply", "d", "e"], 1, err=b"refused ReadFault\ne: this is a folder: apply its parts, as OFFER/*.lanes\n", files={"d/%s.lanes" % hashlib.sha512(ONE_ROW).hexdigest()[:32]: ONE_ROW, "e/kept": b"old"}),
+    Case("a folder is not an offer, and its parts are", ["apply", "t", "d"], 1, err=b"refused ReadFault\nd: this is a folder: apply its parts, as d/*.lanes\n", files={"t": ONE_ROW, **FOLDER}, writes={"t": ONE_ROW}),
+    Case("a folder is not one for a folder either", ["apply", "d", "e"], 1, err=b"refused ReadFault\ne: this is a folder: apply its parts, as e/*.lanes\n", files={"d/%s.lanes" % hashlib.sha512(ONE_ROW).hexdigest()[:32]: ONE_ROW, "e/kept": b"old"}),
     Case("another form is a fault of the command line", ["query", "--format", "xml", "t", "SELECT A FROM T"], 2, err=[b"FORMAT is text, csv, json or table"]),
     Case("lines of standard input are queries", ["query", "t", "-"], 0, b"SUM(A)\n14\nCOUNT(*)\n2\n", input=b"SELECT SUM(A) FROM T\n\nSELECT COUNT(*) FROM T", files={"t": BOTH}),
     Case(
@@ -323,13 +323,13 @@ CASES = [
         ["query", "t", "-"],
         1,
         b"SUM(A)\n14\n",
-        b"refused Syntax 0\nline 1, byte 0: \"x\" is not possible here; expected SELECT\nrefused Syntax 2\nline 2, byte 2: this is not UTF-8\nrefused LineTooLong\nline 3: the line has more than 1,048,576 bytes\n",
+        b"refused Syntax 0\nt: line 1, byte 0: \"x\" is not possible here; expected SELECT\nrefused Syntax 2\nt: line 2, byte 2: this is not UTF-8\nrefused LineTooLong\nt: line 3: the line has more than 1,048,576 bytes\n",
         input=b"x\nSE\xff\n" + b"y" * 1_048_577 + b"\nSELECT SUM(A) FROM T\n",
         files={"t": BOTH},
     ),
     Case("on a terminal lines are asked for, and it is said how to leave", ["query", "t", "-"], 0, b"COUNT(*)\n2\n", WELCOME + b"lanes> lanes> ", input=b"SELECT COUNT(*) FROM T\n", files={"t": BOTH}, input_from="terminal"),
     Case("there a query may end in a semicolon", ["query", "t", "-"], 0, b"COUNT(*)\n2\n", WELCOME + b"lanes> lanes> ", input=b"SELECT COUNT(*) FROM T ; \n", files={"t": BOTH}, input_from="terminal"),
-    Case("a semicolon in its midst is refused", ["query", "t", "-"], 1, err=[b"refused Syntax 22\nline 1, byte 22: there is no semicolon"], input=b"SELECT COUNT(*) FROM T; SELECT\n", files={"t": BOTH}, input_from="terminal"),
+    Case("a semicolon in its midst is refused", ["query", "t", "-"], 1, err=[b"refused Syntax 22\nt: line 1, byte 22: there is no semicolon"], input=b"SELECT COUNT(*) FROM T; SELECT\n", files={"t": BOTH}, input_from="terminal"),
     *(
         Case(f"{word} leaves", ["query", "t", "-"], 0, b"COUNT(*)\n2\n", WELCOME + b"lanes> lanes> ", input=b"SELECT COUNT(*) FROM T\n%s\nSELECT\n" % word.encode(), files={"t": BOTH}, input_from="terminal")
         for word in ("quit", "QUIT;", " exit", "\\q")
@@ -347,9 +347,9 @@ CASES = [
         Case(f"{words[0]} prints nothing if it is to be quiet", [words[0], "--quiet", *words[1:]], 0, b"", files={"t": ONE_ROW, "u": SECOND_BATCH, "rows": b"A\n7\n"})
         for words in (["create", "new", "T", "A", "SMALLINT"], ["import", "t", "rows"], ["delete", "t", "A = 7"], ["delete-rows", "t", "1.1", "0", "0"], ["apply", "t", "u"], ["merge", "out", "t", "u"])
     ),
-    Case("a refusal is said though it is to be quiet", ["import", "--quiet", "--no-header", "t", "-"], 1, err=b'refused BadCsv 1 1\nlanes import t: standard input, line 1, column A: "x" is not a whole number\n', input=b"x\n", files={"t": ONE_ROW}, writes={"t": ONE_ROW}),
+    Case("a refusal is said though it is to be quiet", ["import", "--quiet", "--no-header", "t", "-"], 1, err=b'refused BadCsv 1 1\nlanes import t: standard input, line 1, column A: "x" is not a whole number: write a number for each text\n', input=b"x\n", files={"t": ONE_ROW}, writes={"t": ONE_ROW}),
     Case("several texts are imported under names that count on", ["import", "--batch", "2.1", "t", "rows", "-"], 0, b"ok batches=2 new=2 rows=2 first=2.1\n", input=b"A\n8\n", files={"t": ONE_ROW, "rows": b"A\n7\n"}, writes={"t": file_of(b"T", batch(1, 1, 7), batch(2, 1, 7), batch(2, 2, 8))}),
-    Case("of several texts all are imported or none", ["import", "t", "rows", "bad", "worse"], 1, err=b'refused BadCsv 2 1\nbad, line 2, column A: "x" is not a whole number\n', files={"t": ONE_ROW, "rows": b"A\n7\n", "bad": b"A\nx\n", "worse": b""}, writes={"t": ONE_ROW}),
+    Case("of several texts all are imported or none", ["import", "t", "rows", "bad", "worse"], 1, err=b'refused BadCsv 2 1\nbad, line 2, column A: "x" is not a whole number: write a number for each text\n', files={"t": ONE_ROW, "rows": b"A\n7\n", "bad": b"A\nx\n", "worse": b""}, writes={"t": ONE_ROW}),
     Case("one text alone may be standard input", ["import", "t", "-", "-"], 2, err=[b"only one CSV can be -"], files={"t": ONE_ROW}),
     Case("one offer alone may be standard input", ["apply", "t", "-", "-"], 2, err=[b"only one OFFER can be -"]),
     Case("a summary isn't written to a terminal", ["summary", "t"], 2, err=[b"standard output is a terminal"], files={"t": ONE_ROW}, output_to="terminal"),

@@ -108,6 +108,7 @@ def with_help():
 # What is said of a word that begins with a hyphen, by the options of its command and by what is wanted there.
 NAME = ": write a name that begins with - as ./-name, or put -- before it"
 QUERY = ": no query begins with -"
+ORDINAL = ": ordinals begin at 0"
 
 
 def refused(command, words, at, said, advice=NAME, word="-q"):
@@ -132,7 +133,7 @@ ONLY = {
     "offer": "--help",
     "apply": "--quiet and --help",
     "check": "--digest and --help",
-    "merge": "--quiet and --help",
+    "merge": "--replace, --quiet and --help",
     "spread": "--quiet and --help",
     "pack": "--all, --quiet and --help",
     "run": "--explain and --help",
@@ -144,7 +145,7 @@ def without_hyphens():
         for at in range(len(words)):
             if (command, at) == ("delete", 1):
                 continue
-            advice = QUERY if command in ("query", "partial") and at >= 1 else NAME
+            advice = QUERY if command in ("query", "partial") and at >= 1 else ORDINAL if command == "delete-rows" and at >= 2 else NAME
             for word in ("-q", "--q", "--q=1"):
                 yield refused(command, words, at, ONLY[command], advice, word)
 
@@ -165,7 +166,7 @@ COMMAND_LINE_CASES = [
     Case("an option twice is one too", ["check", "t", "t"], 2, err=[b"unexpected argument 't'"], files={"t": ONE_ROW}),
     Case("what can't be seen is shown", ["check", "-\x1b[2J\n"], 2, err=[b'lanes check has no option "-\\x1B[2J\\x0A", only --digest and --help']),
     Case("a line feed in a name is shown as a space", ["check", "no\nne"], 1, err=b"refused ReadFault\nno ne: no such file or folder\n"),
-    Case("a control character in a table's name is shown, and no file is made", ["create", "t", "T\x07", "A", "SMALLINT"], 1, err=b'refused BadSchema\n"T\\x07" is not a name: a name is a letter and up to 63 letters, digits or _\n', writes={"t": None}),
+    Case("a control character in a table's name is shown, and no file is made", ["create", "t", "T\x07", "A", "SMALLINT"], 1, err=b'refused BadSchema\nt: "T\\x07" is not a name: a name is a letter and up to 63 letters, digits or _\n', writes={"t": None}),
     Case("a merge of a name that isn't UTF-8 makes no file", ["merge", "out", b"\xff\xfe"], 2, err=[b'argument 3 is not UTF-8: "\\xFF\\xFE"'], writes={"out": None}),
     Case("an argument that isn't UTF-8 is named by its number", ["check", b"t\xff"], 2, err=[b'argument 2 is not UTF-8: "t\\xFF"']),
 ]

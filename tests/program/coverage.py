@@ -94,6 +94,6 @@ COVERAGE_CASES = [
     Case("rows that are deleted already stay so, and their batch is held", ["delete-rows", "--held", "t", "1.1", "0", "0"], 0, b"ok held=1\n", files={"t": ALL_DELETED}, writes={"t": ALL_DELETED}),
     Case("rows of a batch that isn't held are not deleted", ["delete-rows", "--held", "t", "2.2", "0", "0"], 0, b"ok held=0\n", files={"t": BOTH}, writes={"t": BOTH, ".t.lanes-lock": None}),
     Case("with --quiet neither is said", ["delete-rows", "--held", "--quiet", "t", "2.2", "0", "0"], 0, files={"t": BOTH}, writes={"t": BOTH}),
-    Case("a name that isn't proper is refused, held or not", ["delete-rows", "--held", "t", "0.1", "1", "0"], 1, err=b"refused BadName\norigins and batch numbers start at 1\n", files={"t": BOTH}, writes={"t": BOTH}),
-    Case("so is a range that ends before it starts", ["delete-rows", "--held", "t", "2.2", "1", "0"], 1, err=b"refused BadRange 0\nthe range ends before it starts\n", files={"t": BOTH}, writes={"t": BOTH}),
+    Case("a name that isn't proper is refused, held or not", ["delete-rows", "--held", "t", "0.1", "1", "0"], 1, err=b"refused BadName\nt: origins and batch numbers start at 1\n", files={"t": BOTH}, writes={"t": BOTH}),
+    Case("so is a range that ends before it starts", ["delete-rows", "--held", "t", "2.2", "1", "0"], 1, err=b"refused BadRange 0\nt: the range ends before it starts\n", files={"t": BOTH}, writes={"t": BOTH}),
 ]

@@ -22,7 +22,7 @@ CURES = [
 
 def refused(query, at, sentence):
     kind = "NoSuchColumn" if "alias" in sentence else "Syntax"
-    wanted = f"refused {kind} {at}\nbyte {at}: {sentence}\n".encode()
+    wanted = f"refused {kind} {at}\nt: byte {at}: {sentence}\n".encode()
     return Case(f"what to write instead is said of {query}", ["query", "t", query], 1, err=wanted, files={"t": ONE_ROW})
 
 

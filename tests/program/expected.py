@@ -128,7 +128,7 @@ def probes():
 
 def is_said_right(errors):
     """Whether each front expects what is not refused after it, and nothing else."""
-    refused = {int(line): (int(at), words) for line, at, words in re.findall(r"^line (\d+), byte (\d+): (.*)$", errors.decode(), re.M)}
+    refused = {int(line): (int(at), words) for line, at, words in re.findall(r"^t: line (\d+), byte (\d+): (.*)$", errors.decode(), re.M)}
     for index, front in enumerate(FRONTS):
         first = index * (len(KINDS) + 1) + 1
         at = len(" ".join(front)) + (1 if front else 0)

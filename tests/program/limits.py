@@ -107,7 +107,7 @@ def query_line(length):
 def lines_of_queries(name, *lengths, refused=None):
     """Queries of these lengths as lines of standard input, of which one may be too long."""
     kept = [length for length in lengths if length != refused]
-    told = b"".join(b"refused LineTooLong\nline %d: the line has more than 1,048,576 bytes\n" % (lengths.index(length) + 1) for length in lengths if length == refused)
+    told = b"".join(b"refused LineTooLong\nt: line %d: the line has more than 1,048,576 bytes\n" % (lengths.index(length) + 1) for length in lengths if length == refused)
     return Case(name, ["query", "t", "-"], 1 if refused else 0, b"COUNT(*)\n1\n" * len(kept), told, b"".join(query_line(length) + b"\n" for length in lengths), files={"t": SECOND_BATCH})
 
 

@@ -12,8 +12,8 @@ ONE_COLUMN = file_of(b"T")
 # A query, why it is refused, and what is said of it. The places are those that docs/SQL.md gives.
 QUERIES = [
     ("SELECT * FROM VISITS", "Syntax 7", "byte 7: a query lists grouping columns and set functions: lanes dump writes the rows"),
-    ("SELECT SITE FROM VISITS ORDER BY SITE", "Syntax 24", "byte 24: there is no ORDER BY: rows ascend by the columns of GROUP BY; pipe the answer through sort -n"),
-    ("SELECT COUNT(*) FROM VISITS limit 3", "Syntax 28", "byte 28: there is no LIMIT: pipe the answer through head"),
+    ("SELECT SITE FROM VISITS ORDER BY SITE", "Syntax 24", "byte 24: there is no ORDER BY: rows ascend by the columns of GROUP BY; pipe the answer through tail -n +2 | sort -t, -k2,2nr (by column 2, largest first)"),
+    ("SELECT COUNT(*) FROM VISITS limit 3", "Syntax 28", "byte 28: there is no LIMIT: pipe the answer through head -n 4 (the heading and 3 rows)"),
     ("SELECT COUNT(*) FROM VISITS;", "Syntax 27", "byte 27: there is no semicolon: a query ends with its text"),
     ("SELECT COUNT(*) FROM VISITS WHERE SITE != 1", "Syntax 39", "byte 39: not equal is written <>"),
     ("SELECT COUNT(*) FROM VISITS WHERE SITE == 1", "Syntax 40", "byte 40: equal is written ="),
@@ -49,22 +49,23 @@ QUERIES = [
 LINES = [
     (["--no-header"], b"1,2", "the line has 2 fields, and the table has 3 columns"),
     (["--no-header"], b"1,2,3,", "the line has 4 fields, and the table has 3 columns"),
-    (["--no-header"], b"1;2;3", "the line has 1 field, and the table has 3 columns; semicolons seem to separate its fields"),
-    ([], b"A\tB\tC", "the line has 1 field, and the table has 3 columns; tabs seem to separate its fields"),
-    (["--no-header"], b"1|2|3", "the line has 1 field, and the table has 3 columns; bars seem to separate its fields"),
+    (["--no-header"], b"1;2;3", "the line has 1 field, and the table has 3 columns; semicolons seem to separate its fields: say --separator ';'"),
+    ([], b"A\tB\tC", "the line has 1 field, and the table has 3 columns; tabs seem to separate its fields: say --separator '\\t'"),
+    (["--no-header"], b"1|2|3", "the line has 1 field, and the table has 3 columns; bars seem to separate its fields: say --separator '|'"),
     (["--no-header"], b"1;2", "the line has 1 field, and the table has 3 columns"),
-    ([], b"", "the header is missing: did the command before it fail?"),
+    ([], b"", "this line is empty, and should be the header: did the command before it fail?"),
     ([], b"a,C", "the line has 2 fields, and the table has 3 columns, A, B, C; B is missing; name the fields by --columns, as --columns A,C"),
     ([], b'A,B,C,"D"', "the line has 4 fields, and the table has 3 columns, A, B, C; \"D\" is not one of them; name the fields by --columns, as --columns A,B,C,-"),
     (["--no-header"], b'1,"2,000",3', "the line has 4 fields, and the table has 3 columns; quotes don't protect a separator: write numbers without it, or choose another one"),
+    (["--no-header"], b'1,"2', "the line has 2 fields, and the table has 3 columns; quotes don't protect a line's end, so write each row in one line"),
     (["--no-header"], b"1,2,3\r4,5,6", "the line has 5 fields, and the table has 3 columns; a carriage return alone does not end a line: end lines with line feeds"),
     (["--columns", "A,-,B", "--no-header"], b"1,2", "the line has 2 fields, and --columns has 3 words"),
     (["--columns", "A", "--no-header"], b"1,2", "the line has 2 fields, and --columns has 1 word"),
     (["--columns", "A,B"], b"1,2", "this is a row and no header: with --no-header it is read as a row"),
-    (["--columns", "A"], b"", "the header is missing: did the command before it fail?"),
-    (["--columns", "A,B", "--no-header"], b"1;2", "the line has 1 field, and --columns has 2 words; semicolons seem to separate its fields"),
+    (["--columns", "A"], b"", "this line is empty, and should be the header: did the command before it fail?"),
+    (["--columns", "A,B", "--no-header"], b"1;2", "the line has 1 field, and --columns has 2 words; semicolons seem to separate its fields: say --separator ';'"),
     (["--no-header", "--separator", ";"], b"1,2", "the line has 1 field, and the table has 3 columns"),
-    (["--no-header", "--separator", ";"], b"1,2,3", "the line has 1 field, and the table has 3 columns; commas seem to separate its fields"),
+    (["--no-header", "--separator", ";"], b"1,2,3", "the line has 1 field, and the table has 3 columns; commas seem to separate its fields: say --separator ','"),
 ]
 
 # How a text begins that should be values, and what is said of its first line.
@@ -83,12 +84,22 @@ KINDS = [(["--columns", "A,-,-"], THREE, "1 0", "line 1"), ([], ONE_COLUMN, "1 1
 
 # A field of the column A SMALLINT, and what is said of it. What is quoted is cut at 40 bytes, and has no byte that a terminal acts on.
 FIELDS = [
-    (b"abc", '"abc" is not a whole number'),
+    (b"abc", '"abc" is not a whole number: write a number for each text'),
     (b'"-40000"', '"-40000" is outside the type SMALLINT'),
-    (b"\x1b[2J\x7f\xc3\xa9~ ", '"\\x1B[2J\\x7F\u00e9~ " is not a whole number'),
-    (b"a234567890b234567890c234567890d234567890e", '"a234567890b234567890c234567890d234567890" is not a whole number'),
-    (b"a234567890b234567890c234567890d23456789\xc3\xa9", '"a234567890b234567890c234567890d23456789" is not a whole number'),
-    (b"\xe2\x80\xae7\xff", '"\\u{202E}7\\xFF" is not a whole number'),
+    (b"\x1b[2J\x7f\xc3\xa9~ ", '"\\x1B[2J\\x7F\u00e9~ " is not a whole number: write a number for each text'),
+    (b"a234567890b234567890c234567890d234567890e", '"a234567890b234567890c234567890d234567890".. is not a whole number: write a number for each text'),
+    (b"a234567890b234567890c234567890d23456789\xc3\xa9", '"a234567890b234567890c234567890d23456789".. is not a whole number: write a number for each text'),
+    (b'""', '"" is not a whole number: a null is an empty field without quotes, or NULL; if this is one too, say --null \'\''),
+    (b'"7', '"\"7" is not a whole number: quotes don\'t protect a line\'s end, so write each row in one line'),
+    (b"2.5", '"2.5" is not a whole number: write it in a smaller unit, as cents for an amount'),
+    (b"-0.25", '"-0.25" is not a whole number: write it in a smaller unit, as cents for an amount'),
+    (b"2026-12-01", '"2026-12-01" is not a whole number: write a day as a number, as 20261130, and a time as seconds'),
+    (b"12:30", '"12:30" is not a whole number: write a day as a number, as 20261130, and a time as seconds'),
+    (b"True", '"True" is not a whole number: write 1 for true and 0 for false'),
+    (b"n/a", '"n/a" is not a whole number; if it is a null, say --null \'n/a\''),
+    (b"1" * 43, '"' + "1" * 40 + '".. has more than 30 digits'),
+    (b"1" * 40, '"' + "1" * 40 + '" has more than 30 digits'),
+    (b"\xe2\x80\xae7\xff", '"\\u{202E}7\\xFF" is not a whole number: write a number for each text'),
 ]
 
 # A heading of VISITS, which of its fields is refused, and what is said of it.
@@ -108,7 +119,7 @@ CARETS = [
 
 
 def refused_query(text, refusal, sentence):
-    wanted = f"refused {refusal}\n{sentence}\n".encode()
+    wanted = f"refused {refusal}\nt: {sentence}\n".encode()
     return Case(f"what is said of the query {text[:80]}", ["query", "t", text], 1, err=wanted, files={"t": VISITS})
 
 

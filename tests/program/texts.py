@@ -39,8 +39,8 @@ Options:
   -h, --help     Print help
   -V, --version  Print version
 
-lanes help COMMAND says how a command is used. README.md has a first example, docs/COMMANDS.md all about each command,
-and docs/SQL.md the language of queries.
+lanes help COMMAND says how a command is used. The pages are in share/doc/lanes next to bin: README.md has a first example,
+docs/COMMANDS.md all about each command, and docs/SQL.md the language of queries.
 """
 
 RUN_HELP = """\
@@ -72,11 +72,13 @@ Arguments:
   <IN>...  The files that are merged, in this order
 
 Options:
-      --quiet  Print nothing on success
-  -h, --help   Print help
+      --replace  Replace OUT, whatever it holds
+      --quiet    Print nothing on success
+  -h, --help     Print help
 
-OUT is replaced as a whole, and stays as it was if the merge is refused. If OUT is not a regular file it is written in place.
-A name OUT/ makes a new folder. An IN may be a folder: its parts are merged.
+OUT is replaced as a whole, and stays as it was if the merge is refused. An OUT that is there and is not an IN is replaced only if the
+result has all its rows and deletions, or with --replace: lanes apply OUT IN.. adds files to it. If OUT is not a regular file it is
+written in place. A name OUT/ makes a new folder. An IN may be a folder: its parts are merged.
 """
 
 SPREAD_HELP = """\
@@ -148,6 +150,7 @@ answer too.
 HELP = [
     (["--help"], PROGRAM_HELP),
     (["help"], PROGRAM_HELP),
+    (["help", "--help"], PROGRAM_HELP),
     (["run", "--help"], RUN_HELP),
     (["merge", "--help"], MERGE_HELP),
     (["spread", "--help"], SPREAD_HELP),
@@ -162,7 +165,8 @@ FAULTS = [
     (["run", "x", "y"], "error: unexpected argument 'y' found\n\nUsage: lanes run [OPTIONS] [SCRIPT]\n\nFor more information, try '--help'.\n"),
     (["bogus"], "error: unrecognized subcommand 'bogus'\n\nUsage: lanes <COMMAND>\n\nFor more information, try '--help'.\n"),
     (["query", "t", "A", "--x"], 'error: lanes query has no option "--x", only --format and --help: no query begins with -\n\nUsage: lanes query [OPTIONS] <FILE> <SQL>...\n\nFor more information, try \'--help\'.\n'),
-    (["create", "t", "T", "A", "text"], "error: each column is a name and its type, TINYINT, SMALLINT, INTEGER or BIGINT\n\nUsage: lanes create [OPTIONS] <FILE> <TABLE> <COL TYPE>...\n\nFor more information, try '--help'.\n"),
+    (["create", "t", "T", "A", "text"], "error: \"text\" is no type: each column is a name and its type, TINYINT, SMALLINT, INTEGER or BIGINT; store a number for each text\n\nUsage: lanes create [OPTIONS] <FILE> <TABLE> <COL TYPE>...\n\nFor more information, try '--help'.\n"),
+    (["import", "t"], "error: CSV is missing: give files, or - for standard input\n\nUsage: lanes import [OPTIONS] <FILE> <CSV>...\n\nFor more information, try '--help'.\n"),
 ]
 
 # Command lines that have a word too few or too many, or one that is malformed.

@@ -29,7 +29,7 @@ class Site(Maker):
     def tell(self):
         """The first command that the program answers otherwise, or None."""
         words = [word for name, kind in self.schema.columns for word in (name.lower(), kind.lower())]
-        steps = [self.load] * 5 + [self.load_again, self.delete, self.delete, self.delete_rows, self.delete_rows, self.forget] + [self.read_out] * 2 + [self.dump_some] * 2 + [self.ask] * 5
+        steps = [self.load] * 5 + [self.load_again, self.delete, self.delete, self.delete_rows, self.delete_rows, self.forget, self.merge_over] + [self.read_out] * 2 + [self.dump_some] * 2 + [self.ask] * 5
         if self.said("create", "t", "t", *words) != (0, b"ok\n", b""):
             return "create"
         for step in self.pick.choices(steps, k=STEPS):
@@ -161,6 +161,38 @@ class Site(Maker):
     def forget(self):
         batches, rows = self.state.forget()
         return self.compared(["forget", "t"], f"ok batches={batches} rows={rows}\n")
+
+    # ---- merges
+    def near(self):
+        """A state near the file's: it may lack batches and deletions, have others, or have other rows under a name."""
+        batches = {name: rows for name, rows in self.state.batches.items() if self.pick.random() < 0.8}
+        deleted = {row for row in self.state.deleted if self.pick.random() < 0.95}
+        if self.pick.random() < 0.15:
+            batches[8, 8] = ((None,) * len(self.schema.columns),)
+        if batches and self.pick.random() < 0.15:
+            name = self.pick.choice(sorted(batches))
+            batches[name] = batches[name] + batches[name][:1]
+        if self.pick.random() < 0.15:
+            deleted.add((9, 9, 99))
+        return State(batches, deleted)
+
+    def is_covered(self, near):
+        """Whether the file has all that a state holds."""
+        return all(self.state.batches.get(name) == rows for name, rows in near.batches.items()) and near.deleted <= self.state.deleted
+
+    def merge_over(self):
+        """A merge of the file into one that is there: an empty one, one that is near it, one of another table, or a text."""
+        near, path = self.near(), os.path.join(self.room, "o")
+        before, is_lost = self.pick.choice([(b"", False), (b"A,B\n1,2\n", True), (file_bytes(Schema("OTHER", self.schema.columns), near), True), *[(file_bytes(self.schema, near), not self.is_covered(near))] * 5])
+        is_replacing = self.pick.random() < 0.2
+        with open(path, "wb") as file:
+            file.write(before)
+        is_kept = is_lost and not is_replacing
+        found = self.compared(["merge", *["--replace"] * is_replacing, "o", "t"], Fault("Exists") if is_kept else "ok\n")
+        with open(path, "rb") as file:
+            if found is None and file.read() != (before if is_kept else file_bytes(self.schema, self.state)):
+                return f"merge over {before[:300]!r}: OUT is another file"
+        return found
 
     # ---- what is read out
     def read_out(self):
