@@ -14,7 +14,7 @@ use table_model::Answer;
 pub enum Format {
     /// The heading and each row in a line, joined by commas, `NULL` for a null.
     Text,
-    /// The same with an empty field for a null.
+    /// The heading and each row in a line, joined by commas, an empty field for a null.
     Csv,
     /// Each row as an object in a line, its keys the headings in order.
     Json,

@@ -158,7 +158,7 @@ impl Values {
         }
     }
 
-    /// The values, which are of 8 bits.
+    /// The values of lanes of 8 bits. Their lane width has to be 8.
     pub fn values_8(&self) -> &[i8]
         requires { self.now.lane_width ≡ 8 }
         ensures { result.now ≡ self.now.values }
@@ -169,7 +169,7 @@ impl Values {
         }
     }
 
-    /// The values, which are of 16 bits.
+    /// The values of lanes of 16 bits. Their lane width has to be 16.
     pub fn values_16(&self) -> &[i16]
         requires { self.now.lane_width ≡ 16 }
         ensures { result.now ≡ self.now.values }
@@ -180,7 +180,7 @@ impl Values {
         }
     }
 
-    /// The values, which are of 32 bits.
+    /// The values of lanes of 32 bits. Their lane width has to be 32.
     pub fn values_32(&self) -> &[i32]
         requires { self.now.lane_width ≡ 32 }
         ensures { result.now ≡ self.now.values }
@@ -191,7 +191,7 @@ impl Values {
         }
     }
 
-    /// The values, which are of 64 bits.
+    /// The values of lanes of 64 bits. Their lane width has to be 64.
     pub fn values_64(&self) -> &[i64]
         requires { self.now.lane_width ≡ 64 }
         ensures { result.now ≡ self.now.values }
@@ -218,7 +218,7 @@ impl Values {
         }
     }
 
-    /// The same values again, or AllocError if memory is refused.
+    /// A copy of the values in memory of its own. If memory is refused, an `AllocError`.
     pub fn copy(&self, alloc: Global) -> Result<Self, AllocError>
         ensures { IfOk result (λ values. values ≡ self.now) }
     {

@@ -295,7 +295,7 @@ impl Words {
         }
     }
 
-    /// The words, which are of 8 bits.
+    /// The words of lanes of 8 bits. Their lane width has to be 8.
     pub fn words_8(&self) -> &[u8]
         requires { self.now.lane_width ≡ 8 }
         ensures { result.now ≡ self.now.numbers }
@@ -306,7 +306,7 @@ impl Words {
         }
     }
 
-    /// The words, which are of 16 bits.
+    /// The words of lanes of 16 bits. Their lane width has to be 16.
     pub fn words_16(&self) -> &[u16]
         requires { self.now.lane_width ≡ 16 }
         ensures { result.now ≡ self.now.numbers }
@@ -317,7 +317,7 @@ impl Words {
         }
     }
 
-    /// The words, which are of 32 bits.
+    /// The words of lanes of 32 bits. Their lane width has to be 32.
     pub fn words_32(&self) -> &[u32]
         requires { self.now.lane_width ≡ 32 }
         ensures { result.now ≡ self.now.numbers }
@@ -328,7 +328,7 @@ impl Words {
         }
     }
 
-    /// The words, which are of 64 bits.
+    /// The words of lanes of 64 bits. Their lane width has to be 64.
     pub fn words_64(&self) -> &[u64]
         requires { self.now.lane_width ≡ 64 }
         ensures { result.now ≡ self.now.numbers }
@@ -339,7 +339,7 @@ impl Words {
         }
     }
 
-    /// The same words again, or AllocError if memory is refused.
+    /// A copy of the words in memory of its own. If memory is refused, an `AllocError`.
     pub fn copy(&self, alloc: Global) -> Result<Self, AllocError>
         ensures { IfOk result (λ words. words ≡ self.now) }
     {

@@ -70,7 +70,7 @@ impl Held {
         self.runs.insert(run_of(name))
     }
 
-    /// The same set in memory of its own.
+    /// A copy of the set in memory of its own. If memory is refused, an `AllocError`.
     pub fn copy(&self, alloc: Global) -> Result<Held, AllocError>
         ensures { IfOk result (λ copied. copied ≡ self.now) }
     {

@@ -56,7 +56,7 @@ impl<S: Span> Ranges<S> {
         *self.ranges.allocator()
     }
 
-    /// The same set in memory of its own.
+    /// A copy of the set in memory of its own. If memory is refused, an `AllocError`.
     pub fn copy(&self, alloc: Global) -> Result<Ranges<S>, AllocError>
         ensures { IfOk result (λ copied. copied ≡ self.now) }
     {

@@ -116,7 +116,7 @@ impl Tombs {
         self.ranges.insert((first, last))
     }
 
-    /// The same set in memory of its own.
+    /// A copy of the set in memory of its own. If memory is refused, an `AllocError`.
     pub fn copy(&self, alloc: Global) -> Result<Tombs, AllocError>
         ensures { IfOk result (λ copied. copied ≡ self.now) }
     {

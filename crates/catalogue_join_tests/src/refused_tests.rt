@@ -67,7 +67,7 @@ fn join_names(held: &mut Held, other: &Held) -> Result<(), Fail> {
     }
 }
 
-/// The same with the other set of these tests.
+/// Joins the names with the other set of these tests.
 fn join_other_names(alloc: Global, held: &mut Held) -> Result<(), Fail> {
     let other = held_of(alloc, &OTHER_NAMES)?;
     join_names(held, &other)
@@ -85,7 +85,7 @@ fn list_missing(held: &Held, other: &Held) -> Result<(), AllocError> {
     Ok(())
 }
 
-/// The same, for a test.
+/// Lists the names that are missing, and fails as a test does.
 fn see_missing(held: &Held, other: &Held) -> Result<(), Fail> {
     match list_missing(held, other) {
         Ok(()) => Ok(()),
@@ -97,7 +97,7 @@ fn see_missing(held: &Held, other: &Held) -> Result<(), Fail> {
     }
 }
 
-/// The same beside a set with 1.4 alone: five names are missing, so many that the list grows twice.
+/// Lists the names that a set with 1.4 alone does not have: five names are missing, so many that the list grows twice.
 fn see_five_missing(alloc: Global, held: &Held) -> Result<(), Fail> {
     let other = held_of(alloc, &[4])?;
     see_missing(held, &other)
@@ -160,7 +160,7 @@ fn join_rows(tombs: &mut Tombs, other: &Tombs) -> Result<(), Fail> {
     }
 }
 
-/// The same with the other set of these tests.
+/// Joins the rows with the other set of these tests.
 fn join_other_rows(alloc: Global, tombs: &mut Tombs) -> Result<(), Fail> {
     let other = tombs_with(alloc, &OTHER_RANGES)?;
     join_rows(tombs, &other)

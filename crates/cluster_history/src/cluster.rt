@@ -70,7 +70,7 @@ impl Cluster {
         })
     }
 
-    /// The same cluster, whose queries find groups by hashes of a key.
+    /// Has the cluster's queries find groups by hashes of this key.
     pub fn with_hash_key(self, hash_key: HashKey) -> Cluster
         ensures { result ≡ self }
     {

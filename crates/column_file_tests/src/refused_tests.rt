@@ -146,7 +146,7 @@ fn is_exported(rt: &impl Abort, alloc: Global, store: &Store, bytes: &[u8]) -> R
     Ok(())
 }
 
-/// The same for the store of the file, its vector recoded.
+/// Whether the store of a file, its vector recoded, is exported as the file's bytes.
 fn is_exported_again(rt: &impl Abort, alloc: Global, bytes: &[u8]) -> Result<(), Fail> {
     let store = recoded(alloc, bytes)?;
     is_exported(rt, alloc, &store, bytes)

@@ -28,7 +28,7 @@ fn asked_by(alloc: Global, words: &[String]) -> Result<String, AllocError> {
     }
 }
 
-/// The same of words that have no memory of their own.
+/// What words ask for that have no memory of their own.
 fn asked(alloc: Global, words: &[&str]) -> Result<String, AllocError> {
     let given = words_of(alloc, words)?;
     asked_by(alloc, given.as_slice())

@@ -45,7 +45,7 @@ impl fmt::Display for PartFault {
 
 impl Error for PartFault {}
 
-/// Why some parts aren't opened.
+/// The first part that is at fault, by its index among those that were read, and its fault.
 #[derive(Clone, Copy, Debug, PartialEq, Eq)]
 pub struct PartRefusal {
     /// The place of the part at fault, from 0.

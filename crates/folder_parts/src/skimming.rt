@@ -84,7 +84,7 @@ impl Skim {
         })
     }
 
-    /// The same with what was read of a further part.
+    /// Takes what was read of a further part.
     fn with(self, alloc: Global, part: SkimmedPart) -> Result<Skim, Refusal>
         ensures value { Reads (λ skim. (tt, skim.0)) result (merged self.0 part.store.replica) }
         ensures count { IfOk result (λ skim. (n : ℕ) → n ≤ self.1 + part.batches → n ≤ batch_limit → n ≤ skim.1) }
@@ -114,7 +114,7 @@ impl Skim {
         Ok(skim)
     }
 
-    /// The same with what is read of a further part of this name.
+    /// Reads a further part of this name, and takes what was read of it.
     ///
     /// Refused are, of a part that has one of the load's names or that can't be skimmed, what [`Join::new`](crate::Join::new) refuses;
     /// and given the parts before it `Damaged` and `SchemaDiffers`, and of what was opened `Conflict` and `Full`. `Memory` may come in

@@ -260,7 +260,7 @@ impl For {
         (self.words.lane_width() / 8 + 128 * self.width) as u16
     }
 
-    /// The same vector in memory of its own. If memory is refused, an `AllocError`.
+    /// A copy of the vector in memory of its own. If memory is refused, an `AllocError`.
     pub fn copy(&self, alloc: Global) -> Result<Self, AllocError>
         ensures { IfOk result (λ coded. coded ≡ self.now) }
     {

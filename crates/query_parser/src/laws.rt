@@ -24,7 +24,7 @@ pub fn queries_are_read()
     ensures { QueriesAreRead }
 {}
 
-/// The same of what a text is read as after WHERE: the condition that has its tokens, or its first fault as a condition.
+/// What a text is read as after WHERE is what the grammar says of it: the condition that has its tokens, or its first fault as a condition.
 pub fn conditions_are_read()
     ensures { ConditionsAreRead }
 {}

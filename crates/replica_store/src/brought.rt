@@ -89,7 +89,7 @@ impl<'a> Brought<'a> {
         self.held.lacks_of(&self.own)
     }
 
-    /// What was brought.
+    /// The store of what was brought alone: batches whose names were not held, and all deletions.
     pub fn into_own(self) -> Store
         ensures value { result ≡ self.entry.own }
         ensures is_brought { IsBrought self.entry.held result }

@@ -57,7 +57,7 @@ impl Joined {
         }
     }
 
-    /// The same as one store with nothing apart. `Memory` is answered if there is no memory.
+    /// Makes one store of what was joined, with nothing apart. `Memory` is answered if there is no memory.
     fn levelled(self, alloc: Global) -> Result<Joined, Refusal>
         ensures { Gives (λ joined. joined) result (Ok self) }
     {

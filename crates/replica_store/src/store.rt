@@ -291,7 +291,7 @@ impl Store {
         })
     }
 
-    /// The same, without the counts.
+    /// Drops the batches of which each row is deleted, and does not count them.
     fn drop_dead(&mut self, alloc: Global) -> Result<(), Refusal>
         ensures acts { Acts (λ done. done) self.old.replica result self.new.replica (forgotten_batches self.old.replica) }
         ensures segments { OnOk result (self.new.segments ≡ live_segments self.old.replica.state.deleted self.old.segments) }

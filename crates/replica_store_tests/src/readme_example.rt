@@ -21,7 +21,7 @@ fn merge_two(alloc: Global, here: &mut Store, there: &mut Store, rows: &Rows) ->
     agree(here.batches(), 2)
 }
 
-/// The same of two replicas that have nothing yet.
+/// Merges rows of two replicas that have nothing yet.
 fn merge_rows(alloc: Global, rows: &Rows) -> Result<(), Fail> {
     let mut here = replica(alloc, 1)?;
     let mut there = replica(alloc, 2)?;

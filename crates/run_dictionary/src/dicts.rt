@@ -231,7 +231,7 @@ impl Dict {
         (self.values.get(0), self.values.get(self.values.len() - 1))
     }
 
-    /// The same vector in memory of its own. If memory is refused, an `AllocError`.
+    /// A copy of the vector in memory of its own. If memory is refused, an `AllocError`.
     pub fn copy(&self, alloc: Global) -> Result<Self, AllocError>
         ensures { IfOk result (λ coded. coded ≡ self.now) }
     {

@@ -159,7 +159,7 @@ impl Runs {
         !more_values(&self.values, most)
     }
 
-    /// The same vector in memory of its own. If memory is refused, an `AllocError`.
+    /// A copy of the vector in memory of its own. If memory is refused, an `AllocError`.
     pub fn copy(&self, alloc: Global) -> Result<Self, AllocError>
         ensures { IfOk result (λ coded. coded ≡ self.now) }
     {

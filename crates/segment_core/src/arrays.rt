@@ -221,7 +221,7 @@ fn write_row(arrays: &[CellArray], row: usize, cells: &mut [Option<i128>])
     }
 }
 
-/// The first rows of columns that are given as arrays. If memory is refused, an `AllocError`.
+/// Makes `rows` rows of columns that are given as arrays: row n has cell n of each array. If memory is refused, an `AllocError`.
 pub fn rows_of_arrays(alloc: Global, rows: usize, arrays: &[CellArray]) -> Result<Rows, AllocError>
     requires { HaveRows rows arrays.now }
     ensures { IfOk result (λ made. made ≡ array_rows rows arrays.now) }

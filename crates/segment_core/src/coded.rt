@@ -160,7 +160,7 @@ impl Coded {
         }
     }
 
-    /// The same values in the same coding, in memory of their own. If memory is refused, an `AllocError`.
+    /// A copy of the values in their coding, in memory of its own. If memory is refused, an `AllocError`.
     pub fn copy(&self, alloc: Global) -> Result<Coded, AllocError>
         ensures { IfOk result (λ coded. coded ≡ self.now) }
     {

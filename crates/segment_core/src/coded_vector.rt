@@ -204,7 +204,7 @@ impl CodedVector {
         self.is_canonical_in(&mut room)
     }
 
-    /// The same by a room for numbers of the rows, which serves one vector after another.
+    /// Whether this is the canonical vector of its cells. `room` holds numbers of the rows meanwhile, and serves one vector after another.
     pub(crate) fn is_canonical_in(&self, room: &mut [u64; 1024]) -> bool
         ensures { IsTrue result ↔ (self.now ≡ canonical_vector (lane_width_of self.now.coded) (cells_of self.now)) }
     {
@@ -243,7 +243,7 @@ impl CodedVector {
         are_cells_of(&self.null_rows(), &values, cells)
     }
 
-    /// The same rows in another coding: the least form that the coding has of the filled vector. If memory is refused, an
+    /// The vector of the same rows in another coding: the least form that the coding has of the filled vector. If memory is refused, an
     /// `AllocError`.
     pub fn recoded(&self, alloc: Global, coding: Coding) -> Result<CodedVector, AllocError>
         ensures value { IfOk result (λ vector. vector ≡ recoded_vector coding self.now) }
@@ -268,7 +268,7 @@ impl CodedVector {
         Ok(CodedVector { cover, coded })
     }
 
-    /// The same vector in memory of its own. If memory is refused, an `AllocError`.
+    /// A copy of the vector in memory of its own. If memory is refused, an `AllocError`.
     pub fn copy(&self, alloc: Global) -> Result<CodedVector, AllocError>
         ensures { IfOk result (λ vector. vector ≡ self.now) }
     {

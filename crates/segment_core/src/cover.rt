@@ -89,7 +89,7 @@ impl Cover {
         }
     }
 
-    /// The same rows, with a mask in memory of its own. If memory is refused, an `AllocError`.
+    /// A copy of the rows, with a mask in memory of its own. If memory is refused, an `AllocError`.
     pub(crate) fn copy(&self, alloc: Global) -> Result<Cover, AllocError>
         ensures { IfOk result (λ cover. cover ≡ self.now) }
     {

@@ -101,7 +101,7 @@ pub(crate) fn read_values(
     }
 }
 
-/// The same through a room for `N` values, 1024 at most.
+/// Reads a coded vector through a room for `N` values, 1024 at most: a small room is cheaper to clear.
 fn read_in_room<const N: usize>(
     alloc: Global,
     total: usize,

@@ -69,7 +69,7 @@ impl Segment {
         })
     }
 
-    /// The same of rows that are given as arrays, one for each column: no rows are made. If memory is refused, an `AllocError`.
+    /// The segment of a table's rows that are given as arrays, one for each column: each vector is the canonical one of its cells. No rows are made. If memory is refused, an `AllocError`.
     pub fn build_of_arrays(
         alloc: Global,
         schema: &Schema,
@@ -247,7 +247,7 @@ impl Segment {
         have_cells(self.columns.as_slice(), rows)
     }
 
-    /// The same segment in memory of its own, codings included. If memory is refused, an `AllocError`.
+    /// A copy of the segment with its codings, in memory of its own. If memory is refused, an `AllocError`.
     pub fn copy(&self, alloc: Global) -> Result<Segment, AllocError>
         ensures { IfOk result (λ s. s ≡ self.now) }
     {
@@ -284,7 +284,7 @@ impl Segment {
     }
 }
 
-/// The same columns in memory of their own. If memory is refused, an `AllocError`.
+/// A copy of columns in memory of its own. If memory is refused, an `AllocError`.
 fn copied_columns(alloc: Global, columns: &[Vectors]) -> Result<Vec<Vectors>, AllocError>
     ensures { IfOk result (λ copied. copied.items ≡ columns.now) }
 {

@@ -60,7 +60,7 @@ impl Vectors {
         same_cells(self.vectors.as_slice(), other.as_slice())
     }
 
-    /// The same vectors in memory of their own. If memory is refused, an `AllocError`.
+    /// A copy of the vectors in memory of its own. If memory is refused, an `AllocError`.
     pub fn copy(&self, alloc: Global) -> Result<Vectors, AllocError>
         ensures { IfOk result (λ column. column ≡ self.now) }
     {
@@ -77,7 +77,7 @@ impl Vectors {
     }
 }
 
-/// The same vectors in memory of their own. If memory is refused, an `AllocError`.
+/// A copy of vectors in memory of its own. If memory is refused, an `AllocError`.
 fn copied_vectors(alloc: Global, vectors: &[CodedVector]) -> Result<Vec<CodedVector>, AllocError>
     ensures { IfOk result (λ copied. copied.items ≡ vectors.now) }
 {

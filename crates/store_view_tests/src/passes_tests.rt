@@ -48,7 +48,7 @@ fn lines_of(alloc: Global, store: &Store, query: &Query) -> Result<(String, u128
     Ok((lines, view.passes()))
 }
 
-/// The same of a query's text.
+/// The answer to a query's text, and how many passes it took.
 fn answered(alloc: Global, store: &Store, query: &str) -> Result<(String, u128), Fail> {
     let query = parse(alloc, query)?;
     resolve(&query, store.schema())?;

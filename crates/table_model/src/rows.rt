@@ -36,7 +36,7 @@ impl Rows {
         }
     }
 
-    /// The same rows in memory of the batch's own.
+    /// Copies rows into memory of their own. If memory is refused, an `AllocError`.
     pub fn copy_of(alloc: Global, rows: &[Row]) -> Result<Rows, AllocError>
         ensures { IfOk result (λ batch. batch ≡ rows.now) }
     {
@@ -90,7 +90,7 @@ impl Rows {
         self.row(ordinal)[column]
     }
 
-    /// Writes the cells that the rows from the ordinal `first` on have in a column that each row has, as many as there are places.
+    /// Copies column `column` of the rows `first`, `first + 1` and so on into `cells`, one a place. Each of the rows has to have that column.
     pub fn read_column(&self, first: usize, column: usize, cells: &mut [Option<i128>])
         requires rows { first + length cells.old ≤ length self.now }
         requires column { (n : ℕ) → n < length self.now → column < length (slice_index_or self.now n []) }

@@ -30,7 +30,7 @@ pub fn ones_between(low: usize, high: usize) -> u64
     (u64::MAX << low) & (u64::MAX >> (64 - high))
 }
 
-/// The same, if there can be none.
+/// The word whose bits from `low` up to `high`, at most 64, which is not included, are set. If `low` is `high` none is.
 fn ones_if_any(low: usize, high: usize) -> u64
     requires order { low ≤ high }
     requires within { high ≤ 64 }
