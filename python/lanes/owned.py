@@ -49,17 +49,9 @@ _RECORDED: Set[_Record] = set()
 _CLOSED: Deque[_Record] = collections.deque()
 _LEFT: Deque[_Record] = collections.deque()
 
-#: One thread at a time closes what was left. A handler of a signal may do so in the midst of it.
-_CLOSING = threading.RLock()
-
-
-def _begin_child() -> None:
-    """Gives a child that was forked a lock of its own: the thread that has its parent's is not in the child."""
-    global _CLOSING
-    _CLOSING = threading.RLock()
-
-
-os.register_at_fork(after_in_child=_begin_child)
+#: The records that a thread is at work on. They are its own, and no thread waits for another one: an interrupt may come at any step, and the
+#: thread's next call does what was left undone then.
+_TAKEN = threading.local()
 
 
 class Owner:
@@ -89,17 +81,23 @@ class Owner:
 
 
 def close_left() -> None:
-    """Does what is to be done for owners that are gone."""
-    if not _LEFT:
-        return
-    with _CLOSING:
-        while _LEFT:
-            record = _LEFT[0]
+    """Does what is to be done for owners that are gone. What another thread is about to do is left to it."""
+    taken: List[_Record] = _TAKEN.__dict__.setdefault("records", [])
+    while taken or _take(taken):
+        for record in taken[:1]:  # none if a signal's handler was here
             with contextlib.suppress(OSError):
                 record.act()
             _RECORDED.discard(record)
-            with contextlib.suppress(ValueError):  # a signal's handler was here
-                _LEFT.remove(record)
+            with contextlib.suppress(ValueError):
+                taken.remove(record)
+
+
+def _take(taken: List[_Record]) -> bool:
+    """Takes a record that is left, and tells whether there is one. It is taken in one step of Python, so no interrupt loses it."""
+    if _LEFT:
+        with contextlib.suppress(IndexError):  # another thread was faster
+            taken.extend(map(collections.deque.popleft, (_LEFT,)))
+    return bool(taken)
 
 
 def when_gone(owner: object, act: Callable[[], object]) -> None:

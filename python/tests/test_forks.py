@@ -87,20 +87,26 @@ class Forks(InFolder):
         return os.waitstatus_to_exitcode(os.waitpid(child, 0)[1])
 
     def test_a_child_waits_for_no_thread_of_its_parent(self) -> None:
-        """Of a thread that closes what was left, and of which there is none in the child."""
-        has, ends, left = threading.Event(), threading.Event(), [owned.OpenFile()]
+        """Of a thread that is about to close what was left, and of which there is none in the child."""
+        has, ends = threading.Event(), threading.Event()
+
+        class Left:
+            pass
+
+        def wait() -> None:
+            has.set()
+            ends.wait()
 
         def close() -> None:
-            with owned._CLOSING:
-                has.set()
-                ends.wait()
+            left = Left()
+            owned.when_gone(left, wait)
+            del left
+            owned.close_left()
 
         thread = threading.Thread(target=close)
         thread.start()
         has.wait()
         try:
-            left.clear()
-            self.assertTrue(owned._LEFT)
             self.assertEqual(self.child(self.folder.parts), 0)
         finally:
             ends.set()

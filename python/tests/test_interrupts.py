@@ -10,6 +10,7 @@ import random
 import signal
 import sys
 import tempfile
+import threading
 import time
 import types
 import unittest
@@ -97,6 +98,25 @@ class Interrupts(unittest.TestCase):
         # A call need not take as many steps each time, as of one that draws a name.
         self.assertLessEqual(lost, 20)
         self.assertEqual([name for name in os.listdir(self.room) if name.endswith(".lanes-lock")], [])
+
+    def test_no_thread_waits_for_one_that_was_interrupted(self) -> None:
+        """An interrupt at each step of closing what was left: another thread's call ends, and nothing stays open."""
+
+        def leave_and_close() -> None:
+            owned.OpenFile().open(self.path, os.O_RDONLY)
+            owned.close_left()
+
+        leave_and_close()
+        before = held()
+        for step in range(steps_of(leave_and_close)):
+            with contextlib.suppress(KeyboardInterrupt):
+                steps_of(leave_and_close, step)
+            thread = threading.Thread(target=Table.open, args=(self.path,), daemon=True)
+            thread.start()
+            thread.join(20)
+            self.assertFalse(thread.is_alive(), step)
+        owned.close_left()
+        self.assertEqual((held(), self.lost), (before, []))
 
     def test_opening(self) -> None:
         data = self.table.to_bytes()
