@@ -29,7 +29,7 @@ pub trait Brings: Drop {
     /// What is so of an answer and of what is put, and of the bytes of all parts.
     ghost answers: { Self.Made → Task → Matter → List (List ℕ) → Type 0 };
 
-    /// The same with the part of this name and with these bytes.
+    /// What is brought once the part of this name and with these bytes is taken, too; or why that is refused.
     fn take(self, alloc: Global, name: &str, bytes: &[u8]) -> Result<Self, Self::Refusal>
         ensures { IfOk result (λ next. (parts : List (List ℕ)) → made_of self parts → made_of next (bytes.now ∷ parts)) };
 

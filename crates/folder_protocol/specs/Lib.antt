@@ -8,4 +8,5 @@ pub mod Keeping
 pub mod Taking
 pub mod Temporary
 pub mod Sweeping
+pub mod Removing
 pub mod Linking

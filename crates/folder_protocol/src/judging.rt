@@ -57,7 +57,7 @@ pub fn put_judged<F: Folder, T: Taker>(
     }
 }
 
-/// The same once the temporary is written.
+/// Puts a part, of which the temporary is written, under the exclusive lock, if no name is wanted that is there.
 fn lock_and_put<F: Folder, T: Taker>(
     alloc: Global,
     folder: &mut F,
@@ -90,7 +90,7 @@ fn lock_and_put<F: Folder, T: Taker>(
     }
 }
 
-/// The same under the lock.
+/// Puts a part, of which the temporary is written, if no name is wanted that is there. The exclusive lock is held.
 fn look_and_put<F: Folder, T: Taker>(
     alloc: Global,
     folder: &mut F,

@@ -7,7 +7,7 @@ ghost use Rattle.folder_protocol.specs.Goes.{GoesInTurn};
 ghost use Rattle.folder_protocol.specs.Premises.{IsExclusive, IsWritten, IsGuarded, MayPut, MayPlace};
 ghost use Rattle.folder_protocol.specs.Causes.{Fails, HasCall, LookCause, IsNamed};
 ghost use Rattle.folder_protocol.specs.Linking.{GoesPlainly, LinksOnly};
-ghost use Rattle.folder_protocol.specs.Sweeping.{Tries};
+ghost use Rattle.folder_protocol.specs.Sweeping.{Tries, RemovesOnly};
 
 use crate::Folder;
 use std::alloc::Global;
@@ -63,6 +63,7 @@ pub fn write_new<F: Folder>(folder: &mut F, temporary: &str, bytes: &[u8]) -> io
     ensures plain { GoesPlainly (F.history folder.old) (F.history folder.new) }
     ensures ready { (parts : Parts) → OnOk result (IsWritten parts temporary.now bytes.now (F.history folder.new)) }
     ensures fails { OnErr result (HasCall Fails (F.history folder.old) (F.history folder.new)) }
+    ensures unremoved { RemovesOnly (λ name. ⊥) (F.history folder.old) (F.history folder.new) }
 {
     folder.make(temporary)?;
     write_all(folder, bytes)?;
@@ -75,6 +76,7 @@ fn write_all<F: Folder>(folder: &mut F, bytes: &[u8]) -> io::Result<()>
     ensures plain { GoesPlainly (F.history folder.old) (F.history folder.new) }
     ensures filled { (parts : Parts) (temporary : List ℕ) → stage_of parts (F.history folder.old) ≡ Filled temporary [] → OnOk result (stage_of parts (F.history folder.new) ≡ Filled temporary bytes.now) }
     ensures fails { OnErr result (HasCall Fails (F.history folder.old) (F.history folder.new)) }
+    ensures unremoved { RemovesOnly (λ name. ⊥) (F.history folder.old) (F.history folder.new) }
 {
     let mut done = 0;
     while done < bytes.len() {
@@ -130,8 +132,9 @@ pub fn keep<F: Folder>(
     // Any other answer has its cause: a sync that failed, no file, or other bytes; and so has an error: a call that failed.
     ensures cause { IfOk result (λ how. LookCause how name.now bytes.now (F.history folder.old) (F.history folder.new)) }
     ensures fails { OnErr result (HasCall Fails (F.history folder.old) (F.history folder.new)) }
-    // It gives no name, changes no lock, and lists nothing.
+    // It gives no name, changes no lock, lists nothing, and removes nothing.
     ensures plain { GoesPlainly (F.history folder.old) (F.history folder.new) }
+    ensures unremoved { RemovesOnly (λ name. ⊥) (F.history folder.old) (F.history folder.new) }
 {
     let found = match folder.read(alloc, name)? {
         Some(found) => found,

@@ -63,7 +63,8 @@ pub fn keep_and_put<F: Folder>(
     put(alloc, folder, temporary, name, bytes)
 }
 
-/// The same if what judges the folder's parts wants none that is there, as [`put_judged`] does it.
+/// Puts a part once the parts of some other names, on which it relies, are on the disk, if what judges the folder's parts wants none that
+/// is there, as [`put_judged`] does it. If one of those can't be synced nothing is put.
 ///
 /// None if a name is there that is wanted: nothing is put then. Take what came, and begin anew.
 pub fn keep_and_put_judged<F: Folder, T: Taker>(

@@ -8,6 +8,7 @@ ghost use Rattle.folder_protocol.specs.Goes.{GoesInTurn, AreJoined, AreRemoved};
 ghost use Rattle.folder_protocol.specs.Premises.{IsExclusive, IsGuarded, MayRemove};
 ghost use Rattle.folder_protocol.specs.Causes.{Fails, HasCall, LookCause};
 ghost use Rattle.folder_protocol.specs.Linking.{GoesPlainly, LinksNone};
+ghost use Rattle.folder_protocol.specs.Removing.{RemovesOnce, IsReplaced};
 
 use crate::Folder;
 use crate::putting::{Outcome, keep};
@@ -33,6 +34,9 @@ pub fn remove_joined<F: Folder>(
     ensures fails { OnErr result (HasCall Fails (F.history folder.old) (F.history folder.new)) }
     // Once it is on the disk it is stored.
     ensures stored { (parts : Parts) → name.now ≡ parts.name_of bytes.now → IfOk result (λ how. how ≡ Outcome.OnDisk → IsStored parts bytes.now (F.history folder.new)) }
+    // Whatever the answer is, no name was to be removed but these, and each only after the part was read and synced, and then the folder, under
+    // the exclusive lock, which was held since.
+    ensures removes { (parts : Parts) → name.now ≡ parts.name_of bytes.now → RemovesOnce (IsReplaced parts bytes.now (map string_bytes joined.now)) (F.history folder.old) (F.history folder.new) }
     // It gives no name, and leaves no lock.
     ensures unlinked { LinksNone (F.history folder.old) (F.history folder.new) }
     ensures unlocked { lock_of (F.history folder.new) ≡ None }
@@ -43,7 +47,7 @@ pub fn remove_joined<F: Folder>(
     outcome
 }
 
-/// The same under the lock.
+/// Removes parts that were read, and that the part of this name and with these bytes covers, if that is on the disk. The exclusive lock is held.
 pub fn look_and_remove<F: Folder>(
     alloc: Global,
     folder: &mut F,
@@ -56,6 +60,7 @@ pub fn look_and_remove<F: Folder>(
     ensures cause { IfOk result (λ how. LookCause how name.now bytes.now (F.history folder.old) (F.history folder.new)) }
     ensures fails { OnErr result (HasCall Fails (F.history folder.old) (F.history folder.new)) }
     ensures guarded { (parts : Parts) → name.now ≡ parts.name_of bytes.now → IsExclusive (F.history folder.old) → IfOk result (λ how. how ≡ Outcome.OnDisk → IsGuarded parts bytes.now (F.history folder.new)) }
+    ensures removes { (parts : Parts) → name.now ≡ parts.name_of bytes.now → IsExclusive (F.history folder.old) → RemovesOnce (IsReplaced parts bytes.now (map string_bytes joined.now)) (F.history folder.old) (F.history folder.new) }
     ensures plain { GoesPlainly (F.history folder.old) (F.history folder.new) }
 {
     match keep(alloc, folder, name, bytes)? {
@@ -74,6 +79,7 @@ fn remove_each<F: Folder>(folder: &mut F, joined: &[String]) -> io::Result<()>
     ensures gone { OnOk result (AreRemoved (map string_bytes joined.now) (F.history folder.old) (F.history folder.new)) }
     ensures fails { OnErr result (HasCall Fails (F.history folder.old) (F.history folder.new)) }
     ensures stays { (parts : Parts) → stage_of parts (F.history folder.new) ≡ stage_of parts (F.history folder.old) }
+    ensures removes { (parts : Parts) (packed : List ℕ) → IsGuarded parts packed (F.history folder.old) → RemovesOnce (IsReplaced parts packed (map string_bytes joined.now)) (F.history folder.old) (F.history folder.new) }
     ensures plain { GoesPlainly (F.history folder.old) (F.history folder.new) }
 {
     let mut at = 0;

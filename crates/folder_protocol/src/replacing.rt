@@ -9,6 +9,8 @@ ghost use Rattle.folder_protocol.specs.Goes.{GoesInTurn, AreJoined, AreRemoved};
 ghost use Rattle.folder_protocol.specs.Premises.{IsExclusive, MayPut, MayReplace};
 ghost use Rattle.folder_protocol.specs.Causes.{Fails, Lacks, HasCall, LookCause};
 ghost use Rattle.folder_protocol.specs.Linking.{LinksOnly, LinksNone, WasSo, Watches, HasEach, LacksOne};
+ghost use Rattle.folder_protocol.specs.Removing.{RemovesOnce, IsOwnOrReplaced};
+ghost use Rattle.folder_protocol.specs.Sweeping.{RemovesOnly};
 
 use crate::Folder;
 use crate::names::has_name;
@@ -47,6 +49,9 @@ pub fn replace<F: Folder>(
     // None, if a listing under that lock lacked one of them. Then no file was given a name.
     ensures lacked { IfOk result (λ answer. answer ≡ None → WasSo (Watches (LacksOne (map string_bytes joined.now))) (F.history folder.old) (F.history folder.new)) }
     ensures unlinked { IfOk result (λ answer. answer ≡ None → LinksNone (F.history folder.old) (F.history folder.new)) }
+    // Whatever the answer is, no name was to be removed but the temporary's and these, and each of these only after the part was read and synced,
+    // and then the folder, under the exclusive lock, which was held since.
+    ensures removes { (parts : Parts) → name.now ≡ parts.name_of bytes.now → RemovesOnce (IsOwnOrReplaced parts temporary.now bytes.now (map string_bytes joined.now)) (F.history folder.old) (F.history folder.new) }
     // It leaves no lock.
     ensures unlocked { lock_of (F.history folder.old) ≡ None → lock_of (F.history folder.new) ≡ None }
 {
@@ -59,7 +64,7 @@ pub fn replace<F: Folder>(
     }
 }
 
-/// The same once the temporary is written.
+/// Puts a part, of which the temporary is written, in the place of others, under the exclusive lock.
 fn lock_and_replace<F: Folder>(
     alloc: Global,
     folder: &mut F,
@@ -77,6 +82,7 @@ fn lock_and_replace<F: Folder>(
     ensures links { LinksOnly (Watches (HasEach (map string_bytes joined.now))) (F.history folder.old) (F.history folder.new) }
     ensures lacked { IfOk result (λ answer. answer ≡ None → WasSo (Watches (LacksOne (map string_bytes joined.now))) (F.history folder.old) (F.history folder.new)) }
     ensures unlinked { IfOk result (λ answer. answer ≡ None → LinksNone (F.history folder.old) (F.history folder.new)) }
+    ensures removes { (parts : Parts) → name.now ≡ parts.name_of bytes.now → RemovesOnce (IsOwnOrReplaced parts temporary.now bytes.now (map string_bytes joined.now)) (F.history folder.old) (F.history folder.new) }
     ensures unlocked { lock_of (F.history folder.new) ≡ None }
 {
     match folder.lock() {
@@ -92,7 +98,7 @@ fn lock_and_replace<F: Folder>(
     }
 }
 
-/// The same under the lock.
+/// Puts a part, of which the temporary is written, in the place of others, if they are all there. The exclusive lock is held.
 fn look_and_replace<F: Folder>(
     alloc: Global,
     folder: &mut F,
@@ -110,6 +116,7 @@ fn look_and_replace<F: Folder>(
     ensures links { IsExclusive (F.history folder.old) → LinksOnly (Watches (HasEach (map string_bytes joined.now))) (F.history folder.old) (F.history folder.new) }
     ensures lacked { IsExclusive (F.history folder.old) → IfOk result (λ answer. answer ≡ None → WasSo (Watches (LacksOne (map string_bytes joined.now))) (F.history folder.old) (F.history folder.new)) }
     ensures unlinked { IfOk result (λ answer. answer ≡ None → LinksNone (F.history folder.old) (F.history folder.new)) }
+    ensures removes { (parts : Parts) → name.now ≡ parts.name_of bytes.now → IsExclusive (F.history folder.old) → RemovesOnce (IsOwnOrReplaced parts temporary.now bytes.now (map string_bytes joined.now)) (F.history folder.old) (F.history folder.new) }
 {
     match are_there(alloc, folder, joined) {
         Ok(true) => place_and_remove(alloc, folder, temporary, name, bytes, joined),
@@ -135,6 +142,7 @@ fn are_there<F: Folder>(alloc: Global, folder: &mut F, names: &[String]) -> io::
     ensures links { LinksNone (F.history folder.old) (F.history folder.new) }
     ensures watched { IsExclusive (F.history folder.old) → IfOk result (λ there. there ≡ true → Watches (HasEach (map string_bytes names.now)) (F.history folder.new)) }
     ensures lacked { IsExclusive (F.history folder.old) → IfOk result (λ there. there ≡ false → Watches (LacksOne (map string_bytes names.now)) (F.history folder.new)) }
+    ensures unremoved { RemovesOnly (λ name. ⊥) (F.history folder.old) (F.history folder.new) }
 {
     let listed = folder.list(alloc)?;
     Ok(has_each(listed.as_slice(), names))
@@ -171,6 +179,7 @@ fn place_and_remove<F: Folder>(
     ensures fails { OnErr result (HasCall Fails (F.history folder.old) (F.history folder.new)) }
     ensures stored { (parts : Parts) → name.now ≡ parts.name_of bytes.now → IsExclusive (F.history folder.old) → IfOk result (λ answer. answer ≡ Some Outcome.OnDisk → IsStored parts bytes.now (F.history folder.new)) }
     ensures links { LinksOnly (λ calls. calls ≡ F.history folder.old) (F.history folder.old) (F.history folder.new) }
+    ensures removes { (parts : Parts) → name.now ≡ parts.name_of bytes.now → IsExclusive (F.history folder.old) → RemovesOnce (IsOwnOrReplaced parts temporary.now bytes.now (map string_bytes joined.now)) (F.history folder.old) (F.history folder.new) }
 {
     let linked = folder.link(temporary, name);
     let _ = folder.remove(temporary);

@@ -1,9 +1,10 @@
-use Rattle.std.proofs.Common.{rules, refl, ◌≢◌}
+use Rattle.std.proofs.Common.{rules, refl, ◌≢◌, ℕ, List}
 use Rattle.folder_protocol.specs.Causes.{Fails, FailsToSync, FindsNone, FindsOther}
 use Rattle.folder_protocol.proofs.Causing.{follows_none, follows_on, has_now, has_later, on_err}
 use Rattle.folder_protocol.proofs.ReadLines.{opened, unopened}
 use Rattle.folder_protocol.proofs.Lines.{starts, goes_on, settles_on}
 use Rattle.folder_protocol.proofs.Linking.{plain_none, plain_on}
+use Rattle.folder_protocol.proofs.Removals.{removes_none, removes_on}
 use Rattle.folder_protocol.proofs.putting.keep.Goals as goal
 
 pub returns-in_err-found-clause-in_turn : goal.returns-in_err-found-clause-in_turn
@@ -67,3 +68,25 @@ returns-in-Ok-clause-plain g c = plain_on _ _ _ _ (plain_on _ _ _ _ (plain_on _ 
 
 pub returns-clause-plain : goal.returns-clause-plain
 returns-clause-plain g c = plain_on _ _ _ _ (plain_on _ _ _ _ (plain_none _) c.in_ok-found.ensures tt) c.sync.ensures tt
+
+pub returns-in_err-found-clause-unremoved : goal.returns-in_err-found-clause-unremoved
+returns-in_err-found-clause-unremoved g c = let P = λ (name : List ℕ). ⊥ in removes_on P _ _ _ _ (removes_none P _) c.in_err-found.ensures tt
+
+pub returns-in-None-clause-unremoved : goal.returns-in-None-clause-unremoved
+returns-in-None-clause-unremoved g c = let P = λ (name : List ℕ). ⊥ in removes_on P _ _ _ _ (removes_none P _) c.in_ok-found.ensures tt
+
+pub returns-then-ne-clause-unremoved : goal.returns-then-ne-clause-unremoved
+returns-then-ne-clause-unremoved g c = let P = λ (name : List ℕ). ⊥ in removes_on P _ _ _ _ (removes_none P _) c.in_ok-found.ensures tt
+
+pub returns-in-Ok-settle-clause-unremoved : goal.returns-in-Ok-settle-clause-unremoved
+returns-in-Ok-settle-clause-unremoved g c =
+    let P = λ (name : List ℕ). ⊥ in
+    removes_on P _ _ _ _ (removes_on P _ _ _ _ (removes_on P _ _ _ _ (removes_none P _) c.in_ok-found.ensures tt) c.sync.ensures tt) c.settle.ensures.noted tt
+
+pub returns-in-Ok-clause-unremoved : goal.returns-in-Ok-clause-unremoved
+returns-in-Ok-clause-unremoved g c =
+    let P = λ (name : List ℕ). ⊥ in
+    removes_on P _ _ _ _ (removes_on P _ _ _ _ (removes_on P _ _ _ _ (removes_none P _) c.in_ok-found.ensures tt) c.sync.ensures tt) c.settle.ensures.noted tt
+
+pub returns-clause-unremoved : goal.returns-clause-unremoved
+returns-clause-unremoved g c = let P = λ (name : List ℕ). ⊥ in removes_on P _ _ _ _ (removes_on P _ _ _ _ (removes_none P _) c.in_ok-found.ensures tt) c.sync.ensures tt

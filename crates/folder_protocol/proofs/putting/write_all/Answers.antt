@@ -1,8 +1,9 @@
-use Rattle.std.proofs.Common.{length-take, length-drop, arith, ◌∙◌, inl, inr, refl}
+use Rattle.std.proofs.Common.{length-take, length-drop, arith, ◌∙◌, inl, inr, refl, ℕ, List}
 use Rattle.folder_protocol.specs.Causes.{Fails}
 use Rattle.folder_protocol.proofs.Lines.{goes_on, wrote_on, one_more}
 use Rattle.folder_protocol.proofs.Causing.{take_none, follows_on, has_now, has_later, on_err}
 use Rattle.folder_protocol.proofs.Linking.{plain_on}
+use Rattle.folder_protocol.proofs.Removals.{removes_on}
 use Rattle.folder_protocol.proofs.putting.write_all.Goals as goal
 
 pub returns-in_err-taken-clause-fails : goal.returns-in_err-taken-clause-fails
@@ -26,6 +27,7 @@ returns-then-taken-eq0-clause-in_turn g c = λ parts temporary was.
 pub loop-done-preserved : goal.loop-done-preserved
 loop-done-preserved g c = record {
   plain = plain_on _ _ _ _ c.loop-done.invariant.plain c.in_ok-taken.ensures.noted tt;
+  unremoved = removes_on (λ (name : List ℕ). ⊥) _ _ _ _ c.loop-done.invariant.unremoved c.in_ok-taken.ensures.noted tt;
   follows = follows_on _ _ _ _ c.loop-done.invariant.follows c.in_ok-taken.ensures.noted;
   within =
       let bound = c.in_ok-taken.ensures.bound in
@@ -45,3 +47,12 @@ returns-then-taken-eq0-clause-plain g c = plain_on _ _ _ _ c.loop-done.invariant
 
 pub returns-clause-plain : goal.returns-clause-plain
 returns-clause-plain g c = c.loop-done.invariant.plain
+
+pub returns-in_err-taken-clause-unremoved : goal.returns-in_err-taken-clause-unremoved
+returns-in_err-taken-clause-unremoved g c = removes_on (λ (name : List ℕ). ⊥) _ _ _ _ c.loop-done.invariant.unremoved c.in_err-taken.ensures.noted tt
+
+pub returns-then-taken-eq0-clause-unremoved : goal.returns-then-taken-eq0-clause-unremoved
+returns-then-taken-eq0-clause-unremoved g c = removes_on (λ (name : List ℕ). ⊥) _ _ _ _ c.loop-done.invariant.unremoved c.in_ok-taken.ensures.noted tt
+
+pub returns-clause-unremoved : goal.returns-clause-unremoved
+returns-clause-unremoved g c = c.loop-done.invariant.unremoved

@@ -1,8 +1,9 @@
-use Rattle.std.proofs.Common.{refl}
+use Rattle.std.proofs.Common.{refl, ℕ, List}
 use Rattle.folder_protocol.specs.Causes.{Fails}
 use Rattle.folder_protocol.proofs.Causing.{follows_none, follows_on, has_now, has_later, on_err, sync_fails, parts_without, no_part_of}
 use Rattle.folder_protocol.proofs.Lines.{starts, goes_on, joins, stage_on, ends_ready}
 use Rattle.folder_protocol.proofs.Linking.{plain_none, plain_on, plain_more}
+use Rattle.folder_protocol.proofs.Removals.{removes_none, removes_on, removes_more}
 use Rattle.folder_protocol.proofs.putting.write_new.Goals as goal
 
 pub returns-in_err-make-clause-in_turn : goal.returns-in_err-make-clause-in_turn
@@ -45,3 +46,14 @@ returns-in_err-write_all-clause-plain g c = plain_more _ _ _ (plain_on _ _ _ _ (
 
 pub returns-clause-plain : goal.returns-clause-plain
 returns-clause-plain g c = plain_on _ _ _ _ (plain_more _ _ _ (plain_on _ _ _ _ (plain_none _) c.in_ok-make.ensures tt) c.in_ok-write_all.ensures.plain) c.sync.ensures tt
+
+pub returns-in_err-make-clause-unremoved : goal.returns-in_err-make-clause-unremoved
+returns-in_err-make-clause-unremoved g c = let P = λ (name : List ℕ). ⊥ in removes_on P _ _ _ _ (removes_none P _) c.in_err-make.ensures tt
+
+pub returns-in_err-write_all-clause-unremoved : goal.returns-in_err-write_all-clause-unremoved
+returns-in_err-write_all-clause-unremoved g c = let P = λ (name : List ℕ). ⊥ in removes_more P _ _ _ (removes_on P _ _ _ _ (removes_none P _) c.in_ok-make.ensures tt) c.in_err-write_all.ensures.unremoved
+
+pub returns-clause-unremoved : goal.returns-clause-unremoved
+returns-clause-unremoved g c =
+    let P = λ (name : List ℕ). ⊥ in
+    removes_on P _ _ _ _ (removes_more P _ _ _ (removes_on P _ _ _ _ (removes_none P _) c.in_ok-make.ensures tt) c.in_ok-write_all.ensures.unremoved) c.sync.ensures tt

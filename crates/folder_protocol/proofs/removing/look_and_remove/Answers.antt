@@ -7,6 +7,8 @@ use Rattle.std.proofs.Common.{refl, ap, ◌∙◌, List, [], ◌∷◌, true, ma
 use Rattle.std.specs.String.{string_bytes}
 use Rattle.folder_model.specs.Turn.{stage_of}
 use Rattle.folder_protocol.proofs.Linking.{plain_on, plain_more, settled_guarded}
+use Rattle.folder_protocol.proofs.Removals.{once_never, once_on, once_more}
+use Rattle.folder_protocol.specs.Removing.{IsReplaced}
 use Rattle.folder_protocol.proofs.removing.look_and_remove.Goals as goal
 
 pub returns-in_err-remove_each-in-OnDisk-clause-in_turn : goal.returns-in_err-remove_each-in-OnDisk-clause-in_turn
@@ -65,3 +67,24 @@ returns-in_err-settle-in-OnDisk-clause-plain g c = plain_on _ _ _ _ (plain_more 
 
 pub returns-in_ok-settle-in-OnDisk-clause-plain : goal.returns-in_ok-settle-in-OnDisk-clause-plain
 returns-in_ok-settle-in-OnDisk-clause-plain g c = plain_on _ _ _ _ (plain_more _ _ _ c.keep.ensures.plain c.remove_each.ensures.plain) c.settle.ensures.noted tt
+
+pub returns-in_err-other-clause-removes : goal.returns-in_err-other-clause-removes
+returns-in_err-other-clause-removes g c = λ parts named lock. once_never (IsReplaced parts c.args.bytes.now (map string_bytes c.args.joined.now)) _ _ c.keep.ensures.unremoved
+
+pub returns-in_err-remove_each-in-OnDisk-clause-removes : goal.returns-in_err-remove_each-in-OnDisk-clause-removes
+returns-in_err-remove_each-in-OnDisk-clause-removes g c = λ parts named lock.
+    let P = IsReplaced parts c.args.bytes.now (map string_bytes c.args.joined.now) in
+    once_more P _ _ _ (once_never P _ _ c.keep.ensures.unremoved) (c.remove_each.ensures.removes parts c.args.bytes.now (c.in_ok-other.ensures.guarded parts named lock c.in-OnDisk.is))
+
+pub returns-in_err-settle-in-OnDisk-clause-removes : goal.returns-in_err-settle-in-OnDisk-clause-removes
+returns-in_err-settle-in-OnDisk-clause-removes g c = λ parts named lock.
+    let P = IsReplaced parts c.args.bytes.now (map string_bytes c.args.joined.now) in
+    once_on P _ _ _ _ (once_more P _ _ _ (once_never P _ _ c.keep.ensures.unremoved) (c.remove_each.ensures.removes parts c.args.bytes.now (c.in_ok-other.ensures.guarded parts named lock c.in-OnDisk.is))) c.settle.ensures.noted tt
+
+pub returns-in_ok-settle-in-OnDisk-clause-removes : goal.returns-in_ok-settle-in-OnDisk-clause-removes
+returns-in_ok-settle-in-OnDisk-clause-removes g c = λ parts named lock.
+    let P = IsReplaced parts c.args.bytes.now (map string_bytes c.args.joined.now) in
+    once_on P _ _ _ _ (once_more P _ _ _ (once_never P _ _ c.keep.ensures.unremoved) (c.remove_each.ensures.removes parts c.args.bytes.now (c.in_ok-other.ensures.guarded parts named lock c.in-OnDisk.is))) c.settle.ensures.noted tt
+
+pub returns-in_default-clause-removes : goal.returns-in_default-clause-removes
+returns-in_default-clause-removes g c = λ parts named lock. once_never (IsReplaced parts c.args.bytes.now (map string_bytes c.args.joined.now)) _ _ c.keep.ensures.unremoved

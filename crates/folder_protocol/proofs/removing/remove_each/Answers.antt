@@ -8,6 +8,8 @@ use Rattle.folder_protocol.proofs.ReadLines.{among_more, among_all}
 use Rattle.folder_model.specs.Call.{Call}
 use Rattle.folder_model.specs.Turn.{stage_of}
 use Rattle.folder_protocol.proofs.Linking.{plain_on}
+use Rattle.folder_protocol.proofs.Removals.{once_on}
+use Rattle.folder_protocol.specs.Removing.{IsReplaced}
 use Rattle.folder_protocol.proofs.removing.remove_each.Goals as goal
 
 pub returns-in_err-remove-clause-in_turn : goal.returns-in_err-remove-clause-in_turn
@@ -23,6 +25,9 @@ loop-at-preserved g c = record {
   told = λ parts packed guarded all.
       let so_far = c.loop-at.invariant.told parts packed guarded all in
       removes_on parts packed _ _ _ _ _ so_far.0 so_far.1 (all _ (subst (λ (n : List ℕ). Among n (map string_bytes c.args.joined.now)) (sym c.as_str.ensures.value) (among_map string_bytes c.args.joined.now c.loop-at.at c.index-joined-at.result c.loop-at-test.true (sym c.index-joined-at.is)))) c.remove.ensures;
+  removes = λ parts packed guarded.
+      once_on (IsReplaced parts packed (map string_bytes c.args.joined.now)) _ _ _ _ (c.loop-at.invariant.removes parts packed guarded) c.remove.ensures
+      (subst (λ (n : List ℕ). Among n (map string_bytes c.args.joined.now)) (sym c.as_str.ensures.value) (among_map string_bytes c.args.joined.now c.loop-at.at c.index-joined-at.result c.loop-at-test.true (sym c.index-joined-at.is)), c.loop-at.invariant.stays parts ∙ guarded);
   gone = one_removed _ _ _ _ _ _ c.loop-at.invariant.gone c.in_ok-remove.ensures (λ other among. ⊎_elim
       (λ a. inl a)
       (λ is. inr (is ∙ sym c.as_str.ensures.value))
@@ -48,3 +53,11 @@ returns-clause-stays g c = λ parts. c.loop-at.invariant.stays parts
 
 pub returns-clause-plain : goal.returns-clause-plain
 returns-clause-plain g c = c.loop-at.invariant.plain
+
+pub returns-in_err-remove-clause-removes : goal.returns-in_err-remove-clause-removes
+returns-in_err-remove-clause-removes g c = λ parts packed guarded.
+    once_on (IsReplaced parts packed (map string_bytes c.args.joined.now)) _ _ _ _ (c.loop-at.invariant.removes parts packed guarded) c.remove.ensures
+    (subst (λ (n : List ℕ). Among n (map string_bytes c.args.joined.now)) (sym c.as_str.ensures.value) (among_map string_bytes c.args.joined.now c.loop-at.at c.index-joined-at.result c.loop-at-test.true (sym c.index-joined-at.is)), c.loop-at.invariant.stays parts ∙ guarded)
+
+pub returns-clause-removes : goal.returns-clause-removes
+returns-clause-removes g c = λ parts packed guarded. c.loop-at.invariant.removes parts packed guarded

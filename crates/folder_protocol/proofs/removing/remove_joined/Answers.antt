@@ -4,6 +4,8 @@ use Rattle.folder_model.specs.Call.{Call, lock_of, Locked, Unlocked, Exclusive}
 use Rattle.folder_protocol.specs.Causes.{Fails}
 use Rattle.folder_protocol.proofs.Causing.{follows_none, follows_on, has_now, on_err, looks_later, looks_before, fails_later, fails_before}
 use Rattle.folder_protocol.proofs.Lines.{starts, goes_on, joins, all_joined_later, answer_between}
+use Rattle.folder_protocol.proofs.Removals.{once_none, once_on, once_more}
+use Rattle.folder_protocol.specs.Removing.{IsReplaced}
 use Rattle.folder_protocol.proofs.Linking.{plain_links, links_none, links_on, links_more, guarded_unlocked}
 use Rattle.folder_protocol.proofs.removing.remove_joined.Goals as goal
 
@@ -51,3 +53,14 @@ returns-in_err-lock-clause-unlocked g c = ap lock_of c.in_err-lock.ensures
 
 pub returns-clause-unlocked : goal.returns-clause-unlocked
 returns-clause-unlocked g c = ap lock_of c.unlock.ensures
+
+pub returns-in_err-lock-clause-removes : goal.returns-in_err-lock-clause-removes
+returns-in_err-lock-clause-removes g c = λ parts named.
+    let P = IsReplaced parts c.args.bytes.now (map string_bytes c.args.joined.now) in
+    once_on P _ _ _ _ (once_none P _) c.in_err-lock.ensures tt
+
+pub returns-clause-removes : goal.returns-clause-removes
+returns-clause-removes g c = λ parts named.
+    let P = IsReplaced parts c.args.bytes.now (map string_bytes c.args.joined.now) in
+    once_on P _ _ _ _ (once_more P _ _ _ (once_on P _ _ _ _ (once_none P _) c.in_ok-lock.ensures tt)
+    (c.look_and_remove-outcome.ensures.removes parts named (ap lock_of c.in_ok-lock.ensures))) c.unlock.ensures tt

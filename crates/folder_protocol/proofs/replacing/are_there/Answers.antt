@@ -1,10 +1,11 @@
-use Rattle.std.proofs.Common.{refl, subst, map, List, Some, None}
+use Rattle.std.proofs.Common.{refl, subst, map, ℕ, List, Some, None}
 use Rattle.std.specs.String.{string_bytes}
 use Rattle.folder_model.specs.Call.{Call, Exclusive, Began}
 use Rattle.folder_model.specs.Disk.{Among}
 use Rattle.folder_protocol.specs.Causes.{Fails, Lacks}
 use Rattle.folder_protocol.proofs.Causing.{follows_none, follows_on, has_now, has_later, on_err}
 use Rattle.folder_protocol.proofs.Lines.{starts, goes_on}
+use Rattle.folder_protocol.proofs.Removals.{lists_remove}
 use Rattle.folder_protocol.proofs.Linking.{watched_now, lists_links}
 use Rattle.folder_protocol.proofs.replacing.are_there.Goals as goal
 
@@ -54,3 +55,9 @@ returns-clause-lacked g c = λ lock no.
       watched_now names _ _ lock c.in_ok-listed.ensures,
       (one.0, one.1, subst (λ l. Among one.0 (map string_bytes l) → ⊥) c.as_slice.ensures.value one.2),
     )
+
+pub returns-in_err-listed-clause-unremoved : goal.returns-in_err-listed-clause-unremoved
+returns-in_err-listed-clause-unremoved g c = lists_remove (λ (name : List ℕ). ⊥) None _ _ c.in_err-listed.ensures
+
+pub returns-clause-unremoved : goal.returns-clause-unremoved
+returns-clause-unremoved g c = lists_remove (λ (name : List ℕ). ⊥) (Some (map string_bytes c.in_ok-listed.listed.items)) _ _ c.in_ok-listed.ensures

@@ -7,6 +7,8 @@ use Rattle.folder_protocol.proofs.Causing.{follows_none, follows_on, has_now, ha
 use Rattle.folder_protocol.proofs.Lines.{starts, goes_on, joins, all_joined_later, answer_between, ready_locked}
 use Rattle.folder_protocol.specs.Linking.{Watches, HasEach, LacksOne}
 use Rattle.folder_protocol.proofs.TakeLines.{stored_unlocked}
+use Rattle.folder_protocol.proofs.Removals.{once_none, once_on, once_more}
+use Rattle.folder_protocol.specs.Removing.{IsOwnOrReplaced}
 use Rattle.folder_protocol.proofs.Linking.{links_none, links_on, links_more, all_links_between, all_was_between}
 use Rattle.folder_protocol.proofs.replacing.lock_and_replace.Goals as goal
 
@@ -67,3 +69,13 @@ returns-in-Ok-clause-unlinked g c =
     let P = λ (l : List Call). ⊥ in
     all_links_between c.look_and_replace-outcome.result (λ answer. answer ≡ None) P _ _ _ _ (links_on P _ _ _ _ (links_none P _) c.in-Ok.ensures tt) (links_on P _ _ _ _ (links_none P _) c.unlock.ensures tt)
     c.look_and_replace-outcome.ensures.unlinked
+
+pub returns-in-Ok-clause-removes : goal.returns-in-Ok-clause-removes
+returns-in-Ok-clause-removes g c = λ parts named.
+    let P = IsOwnOrReplaced parts c.args.temporary.now c.args.bytes.now (map string_bytes c.args.joined.now) in
+    once_on P _ _ _ _ (once_more P _ _ _ (once_on P _ _ _ _ (once_none P _) c.in-Ok.ensures tt) (c.look_and_replace-outcome.ensures.removes parts named (ap lock_of c.in-Ok.ensures))) c.unlock.ensures tt
+
+pub returns-in-Err-clause-removes : goal.returns-in-Err-clause-removes
+returns-in-Err-clause-removes g c = λ parts named.
+    let P = IsOwnOrReplaced parts c.args.temporary.now c.args.bytes.now (map string_bytes c.args.joined.now) in
+    once_on P _ _ _ _ (once_on P _ _ _ _ (once_none P _) c.in-Err.ensures tt) c.remove.ensures (inl refl)

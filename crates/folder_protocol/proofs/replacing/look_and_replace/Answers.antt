@@ -6,6 +6,8 @@ use Rattle.folder_protocol.proofs.Causing.{follows_none, follows_on, has_before,
 use Rattle.folder_protocol.proofs.Lines.{goes_on, joins, all_joined_later, answer_between}
 use Rattle.folder_model.specs.Call.{Call}
 use Rattle.folder_protocol.specs.Linking.{Watches, HasEach, LacksOne}
+use Rattle.folder_protocol.proofs.Removals.{once_never, once_on, once_more}
+use Rattle.folder_protocol.specs.Removing.{IsOwnOrReplaced}
 use Rattle.folder_protocol.proofs.Linking.{links_on, links_never, links_at, was_now, was_between, never_none}
 use Rattle.folder_protocol.proofs.replacing.look_and_replace.Goals as goal
 
@@ -70,3 +72,18 @@ returns-in-Ok-false-clause-lacked g c = λ lock _.
 
 pub returns-in-Ok-false-clause-unlinked : goal.returns-in-Ok-false-clause-unlinked
 returns-in-Ok-false-clause-unlinked g c = λ _. links_on (λ (l : List Call). ⊥) _ _ _ _ c.in-Ok-false.ensures.links c.remove.ensures tt
+
+pub returns-in-Ok-true-clause-removes : goal.returns-in-Ok-true-clause-removes
+returns-in-Ok-true-clause-removes g c = λ parts named lock.
+    let P = IsOwnOrReplaced parts c.args.temporary.now c.args.bytes.now (map string_bytes c.args.joined.now) in
+    once_more P _ _ _ (once_never P _ _ c.in-Ok-true.ensures.unremoved) (c.place_and_remove.ensures.removes parts named (c.in-Ok-true.ensures.locked ∙ lock))
+
+pub returns-in-Ok-false-clause-removes : goal.returns-in-Ok-false-clause-removes
+returns-in-Ok-false-clause-removes g c = λ parts named lock.
+    let P = IsOwnOrReplaced parts c.args.temporary.now c.args.bytes.now (map string_bytes c.args.joined.now) in
+    once_on P _ _ _ _ (once_never P _ _ c.in-Ok-false.ensures.unremoved) c.remove.ensures (inl refl)
+
+pub returns-in-Err-clause-removes : goal.returns-in-Err-clause-removes
+returns-in-Err-clause-removes g c = λ parts named lock.
+    let P = IsOwnOrReplaced parts c.args.temporary.now c.args.bytes.now (map string_bytes c.args.joined.now) in
+    once_on P _ _ _ _ (once_never P _ _ c.in-Err.ensures.unremoved) c.remove-in-Err.ensures (inl refl)

@@ -4,6 +4,8 @@ use Rattle.folder_model.specs.Call.{Call, lock_of}
 use Rattle.folder_protocol.specs.Causes.{Fails}
 use Rattle.folder_protocol.proofs.Causing.{follows_none, follows_on, has_now, has_later, has_before, look_later}
 use Rattle.folder_protocol.proofs.Lines.{starts, goes_on, joins, all_joined_later, removed_between, some_is}
+use Rattle.folder_protocol.proofs.Removals.{once_none, once_on, once_more, once_map}
+use Rattle.folder_protocol.specs.Removing.{IsReplaced, IsOwnOrReplaced}
 use Rattle.folder_protocol.proofs.Linking.{plain_links, links_none, links_on, links_more}
 use Rattle.folder_protocol.proofs.replacing.place_and_remove.Goals as goal
 
@@ -58,3 +60,22 @@ pub returns-in-Err-clause-links : goal.returns-in-Err-clause-links
 returns-in-Err-clause-links g c =
     let P = λ (l : List Call). l ≡ g.F.Folder.history c.args.folder.now in
     links_on P _ _ _ _ (links_on P _ _ _ _ (links_none P _) c.in-Err.ensures refl) c.remove.ensures tt
+
+pub returns-in-Ok-look_and_remove-clause-removes : goal.returns-in-Ok-look_and_remove-clause-removes
+returns-in-Ok-look_and_remove-clause-removes g c = λ parts named lock.
+    let P = IsOwnOrReplaced parts c.args.temporary.now c.args.bytes.now (map string_bytes c.args.joined.now) in
+    once_more P _ _ _ (once_on P _ _ _ _ (once_on P _ _ _ _ (once_none P _) c.in-Ok.ensures tt) c.remove.ensures (inl refl))
+    (once_map (IsReplaced parts c.args.bytes.now (map string_bytes c.args.joined.now)) P (λ name l so. inr so) _ _
+    (c.look_and_remove.ensures.removes parts named (ap lock_of c.remove.ensures ∙ ap lock_of c.in-Ok.ensures ∙ lock)))
+
+pub returns-in-Err-look_and_remove-clause-removes : goal.returns-in-Err-look_and_remove-clause-removes
+returns-in-Err-look_and_remove-clause-removes g c = λ parts named lock.
+    let P = IsOwnOrReplaced parts c.args.temporary.now c.args.bytes.now (map string_bytes c.args.joined.now) in
+    once_more P _ _ _ (once_on P _ _ _ _ (once_on P _ _ _ _ (once_none P _) c.in-Ok.ensures tt) c.remove.ensures (inl refl))
+    (once_map (IsReplaced parts c.args.bytes.now (map string_bytes c.args.joined.now)) P (λ name l so. inr so) _ _
+    (c.look_and_remove.ensures.removes parts named (ap lock_of c.remove.ensures ∙ ap lock_of c.in-Ok.ensures ∙ lock)))
+
+pub returns-in-Err-clause-removes : goal.returns-in-Err-clause-removes
+returns-in-Err-clause-removes g c = λ parts named lock.
+    let P = IsOwnOrReplaced parts c.args.temporary.now c.args.bytes.now (map string_bytes c.args.joined.now) in
+    once_on P _ _ _ _ (once_on P _ _ _ _ (once_none P _) c.in-Err.ensures tt) c.remove.ensures (inl refl)

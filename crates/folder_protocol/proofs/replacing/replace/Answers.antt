@@ -6,6 +6,8 @@ use Rattle.folder_protocol.proofs.Causing.{follows_none, follows_on, has_before,
 use Rattle.folder_protocol.proofs.Lines.{goes_on, joins, all_joined_later, answer_between}
 use Rattle.folder_model.specs.Call.{Call, lock_of}
 use Rattle.folder_protocol.specs.Linking.{Watches, HasEach, LacksOne}
+use Rattle.folder_protocol.proofs.Removals.{once_never, once_on, once_more}
+use Rattle.folder_protocol.specs.Removing.{IsOwnOrReplaced}
 use Rattle.folder_protocol.proofs.Linking.{plain_follows, plain_lock, plain_links, links_none, links_on, links_more, all_links_between, all_was_between}
 use Rattle.folder_protocol.proofs.replacing.replace.Goals as goal
 
@@ -64,3 +66,13 @@ returns-in-Ok-clause-unlinked g c =
 
 pub returns-in-Err-clause-unlocked : goal.returns-in-Err-clause-unlocked
 returns-in-Err-clause-unlocked g c = λ none. ap lock_of c.remove.ensures ∙ plain_lock _ _ c.in-Err.ensures.plain ∙ none
+
+pub returns-in-Ok-clause-removes : goal.returns-in-Ok-clause-removes
+returns-in-Ok-clause-removes g c = λ parts named.
+    let P = IsOwnOrReplaced parts c.args.temporary.now c.args.bytes.now (map string_bytes c.args.joined.now) in
+    once_more P _ _ _ (once_never P _ _ c.in-Ok.ensures.unremoved) (c.lock_and_replace.ensures.removes parts named)
+
+pub returns-in-Err-clause-removes : goal.returns-in-Err-clause-removes
+returns-in-Err-clause-removes g c = λ parts named.
+    let P = IsOwnOrReplaced parts c.args.temporary.now c.args.bytes.now (map string_bytes c.args.joined.now) in
+    once_on P _ _ _ _ (once_never P _ _ c.in-Err.ensures.unremoved) c.remove.ensures (inl refl)
