@@ -49,6 +49,8 @@ impl Seen {
 pub enum Wrong {
     /// A loss of power may take a claim that was answered.
     MayBeLost(u8),
+    /// A part was to be given its name, and a loss of power may take a claim on which it relies.
+    NamedTooSoon(u8),
     /// A reading lacks a claim that was answered before it.
     Unread(u8),
     /// Two parts were put by judgement, and neither was seen by whoever put the other.
@@ -140,6 +142,22 @@ impl World {
         }
     }
 
+    /// Looks, as a part is to be given its name that relies on others, whether each claim of these is held in every state that a loss of
+    /// power may leave now.
+    fn look_relied(&mut self) {
+        let Some(turn) = &self.first.turn else {
+            return;
+        };
+        if !matches!(turn.order.task, Task::KeepAndPut | Task::KeepAndPutJudged) {
+            return;
+        }
+        for name in turn.order.relied.iter() {
+            if let Some(claim) = lost_of(&self.disk, bytes_of(name.as_str())) {
+                self.wrong = Some(Wrong::NamedTooSoon(claim));
+            }
+        }
+    }
+
     /// What comes of a call of a process.
     fn fate(&mut self, may_fail: bool) -> Fate {
         if !may_fail || !self.chance.once_in(50) {
@@ -224,6 +242,7 @@ impl World {
             Request::Write { from } => Ok(Some(self.write(*from, fate)?)),
             Request::Sync => Ok(Some(sync(&mut self.disk, &mut self.first, fate))),
             Request::Link { from, to } => {
+                self.look_relied();
                 Ok(Some(link(&mut self.disk, from.as_str(), to.as_str(), fate)?))
             }
             Request::Remove { name } => Ok(Some(self.remove(name.as_str(), fate)?)),
@@ -569,6 +588,16 @@ fn names_of(alloc: Global, parts: &[Vec<u8>]) -> Result<Vec<String>, AllocError>
         names.push(name_of(alloc, part.as_slice())?)?;
     }
     Ok(names)
+}
+
+/// A claim of these bytes that a loss of power may take.
+fn lost_of(disk: &Disk, bytes: &[u8]) -> Option<u8> {
+    for claim in bytes {
+        if !is_dead(*claim) && !is_safe(disk, *claim) {
+            return Some(*claim);
+        }
+    }
+    None
 }
 
 /// Whether a part holds a claim.

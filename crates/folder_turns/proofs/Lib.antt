@@ -3,4 +3,5 @@ pub mod Finding
 pub mod Runs
 pub mod Steps
 pub mod Straying
-pub mod FreeCalls
+pub mod Guards
+pub mod NextCalls

@@ -57,6 +57,7 @@ module _ (parts : Parts) where
   wrote_whatever bytes h (answers.Listed names) turn = turn
   wrote_whatever bytes h answers.Missing turn = turn
   wrote_whatever bytes h (answers.Found found) turn = turn
+  wrote_whatever bytes h (answers.Noted note) turn = turn
 
   settled_whatever : (b : Bool) (h : List Call) → can_settle h ≡ true → InTurn parts h (Settled b)
   settled_whatever true h can = can
@@ -171,6 +172,7 @@ wrote_can bytes answers.Taken h can = can
 wrote_can bytes (answers.Listed names) h can = can
 wrote_can bytes answers.Missing h can = can
 wrote_can bytes (answers.Found found) h can = can
+wrote_can bytes (answers.Noted note) h can = can
 
 settled_can : (done : Bool) (h : List Call) → not done ≡ false → can_settle h ≡ true → can_settle (Settled done ∷ h) ≡ true
 settled_can true h done can = can

@@ -2,6 +2,7 @@
 use Rattle.std.specs.Prelude.{◌≡◌, ℕ, Bool, true, false, List, [], ◌∷◌, ◌++◌, map, take, drop, length, leb, not, if◌then◌else◌, Option, Some, None}
 use Rattle.std.specs.String.{string_bytes}
 use Rattle.folder_model.specs.Call.{Call, Made, Wrote, Synced, Linked, Removed, Settled, Locked, Unlocked, Began, Listed, Read, Looked, Exclusive, Shared, Linking, Done, Taken, Failed}
+use Rattle.folder_protocol.specs.Note.{calls_of}
 use Rattle.folder_turns.specs.declared.request.Request.{Request}
 use Rattle.folder_turns.specs.declared.request.Request.TheVariants.{Make, Write, Sync, Link, Remove, Settle, Lock, LockShared, ListNames, Unlock, ReadFile}
 use Rattle.folder_turns.specs.declared.wanted.Wanted.{Wanted}
@@ -89,10 +90,16 @@ abbrev pub names_of : Answer → Option (List (List ℕ))
 names_of (answers.Listed names) = Some (map string_bytes names.items)
 names_of answer = None
 
+-- the bytes of the read that came last
+abbrev pub last_read : List Call → List ℕ
+last_read (Read name (Some (Some bytes)) ∷ earlier) = bytes
+last_read calls = []
+
 -- what a read gave
 abbrev pub found_of : Answer → Option (Option (List ℕ))
 found_of answers.Missing = Some None
 found_of (answers.Found bytes) = Some (Some bytes.items)
+found_of (answers.Noted note) = Some (Some (last_read (calls_of note.record.noted)))
 found_of answer = None
 
 -- whether a read found a file

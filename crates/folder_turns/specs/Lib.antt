@@ -7,3 +7,4 @@ pub mod Asking
 pub mod Orders
 pub mod Turns
 pub mod FreeCalls
+pub mod Guarding

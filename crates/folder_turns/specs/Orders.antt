@@ -1,5 +1,5 @@
 -- When an order may be followed, and what its end says.
-use Rattle.std.specs.Prelude.{◌≡◌, ℕ, true, List, map, Option, Some, None, Result, Ok, Err, IfOk, MatchResult}
+use Rattle.std.specs.Prelude.{◌≡◌, ◌⊎◌, ℕ, true, List, map, Option, Some, None, Result, Ok, Err, IfOk, MatchResult}
 use Rattle.std.specs.String.{string_bytes}
 use Rattle.std.specs.Global.{Global, Vec}
 use Rattle.std.specs.declared.string.String.{String}
@@ -8,9 +8,11 @@ use Rattle.folder_model.specs.Parts.{Parts}
 use Rattle.folder_model.specs.Turn.{Gave, IsStored, listing_of}
 use Rattle.folder_model.specs.Disk.{Among}
 use Rattle.folder_protocol.specs.Causes.{Fails, HasCall, Lacks, LookCause}
-use Rattle.folder_protocol.specs.Goes.{AreJoined, AreRemoved}
+use Rattle.folder_protocol.specs.Goes.{IsJoined, AreJoined, AreRemoved}
 use Rattle.folder_protocol.specs.Keeping.{AreKept, AreReliedOn}
 use Rattle.folder_protocol.specs.Premises.{MayPut, MayRemove}
+use Rattle.folder_protocol.specs.Removing.{RemovesOnce, IsReplaced}
+use Rattle.folder_protocol.specs.Sweeping.{RemovesOnly}
 use Rattle.folder_protocol.specs.Linking.{LinksOnly, LinksNone, WasSo, Watches, Each, One, HasEach}
 use Rattle.folder_protocol.specs.declared.putting.Outcome.{Outcome}
 use Rattle.folder_protocol.specs.declared.putting.Outcome.TheVariants.{OnDisk}
@@ -110,6 +112,20 @@ LinksOnceKept tasks.KeepAndPut m parts before calls = LinksOnly (AreKept parts m
 LinksOnceKept tasks.KeepAndPutJudged m parts before calls = LinksOnly (AreKept parts m.relied before) before calls
 LinksOnceKept task m parts before calls = Unit {0}
 
+-- A part is removed only in the place of another: its name is one that was told, it was read before the turn, the bytes that are put cover it, and
+-- the part with these bytes is guarded: it was read and synced, and then the folder, under the exclusive lock, which is held since.
+abbrev pub GoesFor : Parts → Matter → List Call → List ℕ → List Call → Type 0
+GoesFor parts m before name calls = IsJoined parts m.bytes name before × IsReplaced parts m.bytes m.names name calls
+
+-- Which names are removed, whatever the end is: for a task that puts a part in the place of others, that of the temporary, and those of the others;
+-- for one that removes parts, theirs; and none as a part is kept, or names are listed.
+abbrev pub RemovesInTask : Task → Matter → Parts → List Call → List Call → Type 0
+RemovesInTask tasks.Replace m parts before calls = RemovesOnce (λ name earlier. (name ≡ m.temporary) ⊎ GoesFor parts m before name earlier) before calls
+RemovesInTask tasks.Remove m parts before calls = RemovesOnce (GoesFor parts m before) before calls
+RemovesInTask tasks.Keep m parts before calls = RemovesOnly (λ name. ⊥) before calls
+RemovesInTask tasks.List m parts before calls = RemovesOnly (λ name. ⊥) before calls
+RemovesInTask task m parts before calls = Unit {0}
+
 -- A task may come to such an end.
 abbrev pub MayEnd : Task → End → Type 0
 MayEnd tasks.Put (ends.Came how) = Unit {0}
@@ -133,12 +149,12 @@ LeavesSafe tasks.KeepAndPut m result parts before calls = IfOk result (λ end. A
 LeavesSafe tasks.KeepAndPutJudged m result parts before calls = IfOk result (λ end. AreReliedOn parts m.relied before calls)
 LeavesSafe task m result parts before calls = Unit {0}
 
--- what is said once an order is followed: what the end of its task says, its cause, when files were given names, that the task may come to it, and
--- what it leaves
+-- what is said once an order is followed: what the end of its task says, its cause, when files were given names, that the task may come to it,
+-- what it leaves, and which names are removed
 abbrev pub EndSays : {E : Type 0} → Task → Matter → Result End E → Parts → List Call → List Call → Type 0
 EndSays task m result parts before calls =
     Says task m result parts before calls × Caused m result before calls × LinksInTask task m before calls × LinksOnceKept task m parts before calls × IfOk result (λ end. MayEnd task end)
-    × LeavesSafe task m result parts before calls
+    × LeavesSafe task m result parts before calls × RemovesInTask task m parts before calls
 
 -- the end of a task that is about one part
 abbrev pub came : {E : Type 0} → Result Outcome E → Result End E

@@ -26,7 +26,7 @@ pub fn done(answer: Option<&Answer>) -> io::Result<()>
     }
 }
 
-/// A write of these bytes. No more of them can be written than there are.
+/// The answer of a write of `bytes`: how many bytes were written, at most all; an error for any other answer.
 pub fn written(answer: Option<&Answer>, bytes: &[u8]) -> io::Result<usize>
     ensures bound { IfOk result (λ n. n ≤ length bytes.now) }
     ensures noted { MatchOption answer.entry (is_ok result ≡ false)
@@ -50,19 +50,33 @@ pub fn linked(answer: Option<&Answer>) -> io::Result<bool>
     }
 }
 
+/// Whether a read found a file. None if it failed.
+fn finds(answer: &Answer) -> Option<bool>
+    ensures { MatchOption result (found_of answer.now ≡ None) (λ there. FoundIs there (found_of answer.now)) }
+{
+    match answer {
+        Answer::Found { .. } => Some(true),
+        Answer::Noted { .. } => Some(true),
+        Answer::Missing => Some(false),
+        _ => None,
+    }
+}
+
 /// A read of which the bytes are not given: whether there is a file.
 pub fn found(answer: Option<&Answer>) -> io::Result<bool>
     ensures { MatchOption answer.entry (is_ok result ≡ false)
         (λ told. MatchResult result (λ there. FoundIs there (found_of told.now)) (λ _. found_of told.now ≡ None)) }
 {
-    match answer {
-        Some(Answer::Found { .. }) => Ok(true),
-        Some(Answer::Missing) => Ok(false),
-        _ => Err(error_of(answer)),
+    let Some(told) = answer else {
+        return Err(error_of(None));
+    };
+    match finds(told) {
+        Some(there) => Ok(there),
+        None => Err(error_of(answer)),
     }
 }
 
-/// The same names.
+/// A copy of some names.
 fn copied(names: &Vec<String>) -> Result<Vec<String>, AllocError>
     ensures { IfOk result (λ copy. map string_bytes copy.items ≡ map string_bytes names.now.items) }
 {
@@ -82,13 +96,14 @@ pub fn listed(answer: &Answer) -> Result<Option<Vec<String>>, AllocError>
     }
 }
 
-/// What a read found, if it did not fail.
+/// What a read found, if it did not fail. If its bytes are noted alone they are not to be had any more.
 pub fn read(alloc: Global, answer: &Answer) -> Result<Option<Option<Vec<u8>>>, AllocError>
     ensures { IfOk result (λ found. option_map (λ some. option_map (λ bytes. bytes.items) some) found ≡ found_of answer.now) }
 {
     match answer {
         Answer::Found { bytes } => Ok(Some(Some(Vec::from_slice(alloc, bytes.as_slice())?))),
         Answer::Missing => Ok(Some(None)),
+        Answer::Noted { .. } => Err(AllocError),
         _ => Ok(None),
     }
 }

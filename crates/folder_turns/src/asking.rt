@@ -37,7 +37,7 @@ pub fn next<P: Program>(
     run::<P, Brand>(alloc, program, whole, told)
 }
 
-/// The same, by a script.
+/// The call that a program asks for next, or what it has come to, after the calls that a script has.
 fn run<P: Program, S: Script>(
     alloc: Global,
     program: &P,

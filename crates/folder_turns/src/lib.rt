@@ -5,6 +5,7 @@
 mod ahead;
 mod answering;
 mod asking;
+mod guarding;
 mod order;
 mod program;
 mod replay;

@@ -11,7 +11,7 @@ use folder_protocol::{
 use std::alloc::Global;
 use std::io;
 
-/// What is to be done.
+/// Which call of `folder_protocol` a turn makes.
 #[derive(Clone, Copy, Debug, PartialEq, Eq, Drop)]
 pub enum Task {
     /// Put the part of this name and with these bytes.
@@ -30,7 +30,7 @@ pub enum Task {
     PutJudged,
     /// As `Put`, once the parts on which it relies are on the disk, if they are there. If one of those can't be synced nothing is put.
     KeepAndPut,
-    /// The same as `PutJudged`.
+    /// As `PutJudged`, once the parts on which it relies are on the disk, if they are there. If one of those can't be synced nothing is put.
     KeepAndPutJudged,
 }
 

@@ -1,6 +1,11 @@
 //! Calls on a folder as they are asked for, and what came of them.
 ghost use Rattle.std.specs.Prelude.{◌≡◌, ℕ, List, drop};
-ghost use Rattle.folder_turns.specs.Calls.{call_asked, first_of, is_done, kind_of, second_of};
+ghost use Rattle.folder_model.specs.Call.{Call};
+ghost use Rattle.folder_protocol.specs.Note.{calls_of};
+ghost use Rattle.folder_turns.specs.Calls.{answered, call_asked, first_of, is_done, kind_of, last_read, second_of};
+
+use folder_protocol::Record;
+use std::fmt;
 
 /// A call that is to be made on a folder. Files are named by their names in it.
 #[derive(Debug, Drop)]
@@ -85,12 +90,35 @@ impl Request {
     }
 }
 
+/// A read of a part, which is noted for clauses alone.
+#[derive(Drop)]
+pub struct Note {
+    record: Record,
+}
+
+impl fmt::Debug for Note {
+    fn fmt<W: fmt::Write>(&self, f: &mut fmt::Formatter<W>) -> fmt::Result {
+        f.write_str("Note")
+    }
+}
+
+impl Note {
+    /// Of a part with these bytes.
+    fn of(bytes: &[u8]) -> Note
+        ensures { last_read (calls_of result.record.noted) ≡ bytes.now }
+    {
+        let mut record = Record::new();
+        record.read("", bytes);
+        Note { record }
+    }
+}
+
 /// What came of a call.
 #[derive(Debug, Drop)]
 pub enum Answer {
     /// It failed. It may have been done nevertheless, or a part of it.
     Failed,
-    /// The same, and the system said why by this number.
+    /// It failed, and the system said why by this number.
     FailedBy { code: i32 },
     Done,
     /// Another file has the name that `Link` was to give.
@@ -103,6 +131,8 @@ pub enum Answer {
     Missing,
     /// `ReadFile` found these bytes.
     Found { bytes: Vec<u8> },
+    /// `ReadFile` found bytes that no run of the order wants: they are noted for clauses alone.
+    Noted { note: Note },
 }
 
 impl Answer {
@@ -111,6 +141,18 @@ impl Answer {
         ensures { result ≡ is_done self.now }
     {
         matches!(self, Answer::Done)
+    }
+
+    /// The same answer without the bytes that a read found.
+    pub(crate) fn noted(self) -> Answer
+        ensures { (call : Call) → answered call result ≡ answered call self }
+    {
+        match self {
+            Answer::Found { bytes } => Answer::Noted {
+                note: Note::of(bytes.as_slice()),
+            },
+            other => other,
+        }
     }
 }
 

@@ -1,15 +1,9 @@
 //! A turn of a process at a folder: an order, and the calls that were made to follow it.
-ghost use Rattle.std.specs.Prelude.{◌≡◌, ◌++◌, ◌∷◌, [], List, Some, None, IfOk, OnOk, OnErr, MatchOption, IfSome, map};
-ghost use Rattle.std.specs.String.{string_bytes};
-ghost use Rattle.folder_model.specs.Call.{Call};
-ghost use Rattle.folder_turns.specs.Calls.{answered};
-ghost use Rattle.folder_turns.specs.Orders.{matter_of};
-ghost use Rattle.folder_turns.specs.Steps.{OnAsks, OnEnds};
-ghost use Rattle.folder_turns.specs.Straying.{IfStrayed};
-ghost use Rattle.folder_turns.specs.Turns.{AsksInTurn, EndsSaying, IsAstray, IsSame, asking, state_of};
+ghost use Rattle.folder_turns.specs.Guarding.{HasGuard};
 
-use crate::ahead::{ahead_of, reads_with};
+use crate::ahead::{ahead_of, reads_with, remembered, removed_with};
 use crate::asking::next;
+use crate::guarding::{Guard, is_its_part};
 use crate::order::{End, Order};
 use crate::replay::Fault;
 use crate::request::{Answer, Request, Told};
@@ -27,9 +21,24 @@ pub struct Turn {
     pub listed: Vec<String>,
     /// How many of the calls that were told are reads.
     pub reads: usize,
+    /// How far it is with its part.
+    guard: Guard,
+    /// How many parts were removed under its guard.
+    removed: usize,
+    // Whatever calls were before those told, all have led so far.
+    ghost is_guarded: { HasGuard order told.items guard },
 }
 
 impl Turn {
+    ghost use Rattle.std.specs.Prelude.{◌≡◌, ◌++◌, ◌∷◌, [], List, Some, None, IfOk, OnOk, OnErr, MatchOption, IfSome, map};
+    ghost use Rattle.std.specs.String.{string_bytes};
+    ghost use Rattle.folder_model.specs.Call.{Call};
+    ghost use Rattle.folder_turns.specs.Calls.{answered};
+    ghost use Rattle.folder_turns.specs.Orders.{matter_of};
+    ghost use Rattle.folder_turns.specs.Steps.{OnAsks, OnEnds};
+    ghost use Rattle.folder_turns.specs.Straying.{IfStrayed};
+    ghost use Rattle.folder_turns.specs.Turns.{AsksInTurn, EndsSaying, IsAstray, IsSame, asking, state_of};
+
     /// A turn in which nothing was asked for yet.
     pub fn new(alloc: Global, order: Order) -> Turn
         ensures { state_of result ≡ record { task = order.task; matter = matter_of order; calls = []; asked = None; listed = [] } }
@@ -40,6 +49,8 @@ impl Turn {
             asked: None,
             listed: Vec::new(alloc),
             reads: 0,
+            guard: Guard::Open,
+            removed: 0,
         }
     }
 
@@ -71,7 +82,14 @@ impl Turn {
         // It strays only if a run of the order does: it ended before it had made all calls that were told, or it made another one.
         ensures strays { IfStrayed result (IsAstray before (state_of self.new)) }
     {
-        let ahead = ahead_of(alloc, &self.order, self.told.as_slice(), self.reads)?;
+        let ahead = ahead_of(
+            alloc,
+            &self.order,
+            self.told.as_slice(),
+            self.reads,
+            self.guard,
+            self.removed,
+        )?;
         if let Some(request) = ahead {
             self.asked = Some(request);
             return Ok(None);
@@ -99,8 +117,16 @@ impl Turn {
     {
         match self.asked.take() {
             Some(request) => {
-                self.reads = reads_with(self.reads, &request);
-                Ok(self.told.push(Told { request, answer })?)
+                let is_part = is_its_part(&self.order, &request, &answer);
+                let guard = self.guard.after(&request, &answer, is_part);
+                let reads = reads_with(self.reads, &request);
+                let removed = removed_with(self.removed, self.guard, &request);
+                let answer = remembered(&self.order, self.reads, answer);
+                self.told.push(Told { request, answer })?;
+                self.guard = guard;
+                self.reads = reads;
+                self.removed = removed;
+                Ok(())
             }
             None => Ok(()),
         }

@@ -81,7 +81,7 @@ impl<'b> Wanted<'b> {
         }
     }
 
-    /// Whether it is a call that was asked for.
+    /// Whether `request` is this call. Its writes are places in `whole`.
     pub fn is(self, request: &Request, whole: &[u8]) -> bool
         ensures same { result ≡ true → call_asked whole.now request.now ≡ wanted_of self.entry }
         ensures other { result ≡ false → call_asked whole.now request.now ≡ wanted_of self.entry → ⊥ }
@@ -149,7 +149,7 @@ impl<'b> Wanted<'b> {
 }
 
 /// A name of its own.
-fn owned(alloc: Global, name: &str) -> Result<String, Fault>
+pub(crate) fn owned(alloc: Global, name: &str) -> Result<String, Fault>
     ensures text { IfOk result (λ text. string_bytes text ≡ name.now) }
     ensures lacks { IfErr result (λ fault. fault ≡ Fault.OutOfMemory) }
 {
