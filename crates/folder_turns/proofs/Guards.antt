@@ -1,5 +1,5 @@
 -- How a guard goes along with the calls.
-use Rattle.std.proofs.Common.{◌≡◌, refl, sym, ◌∙◌, ap, subst, ◌&&◌, if◌then◌else◌, inr, ℕ, Bool, true, false, leb, List, [], ◌∷◌, ◌++◌, length, take, drop, map, Option, Some, None, MatchOption, append_assoc}
+use Rattle.std.proofs.Common.{◌≡◌, refl, sym, ◌∙◌, ap, subst, ◌&&◌, if◌then◌else◌, inr, ℕ, Bool, true, false, leb, List, [], ◌∷◌, ◌++◌, length, take, drop, Option, Some, None, MatchOption, append_assoc}
 use Rattle.std.proofs.lemmas.Slice.Eq.{bytes_eq-Decides}
 use Rattle.std.specs.String.{string_bytes}
 use Rattle.std.specs.declared.string.String.{String}
@@ -8,8 +8,8 @@ use Rattle.std.specs.Str.{bytes_eq}
 use Rattle.folder_model.specs.Call.{Call, Kind, Exclusive, Shared, Wrote, Removed, Locked, Read, lock_of}
 use Rattle.folder_model.specs.Disk.{Among}
 use Rattle.folder_model.specs.Parts.{Parts}
-use Rattle.folder_model.specs.Turn.{Stage, Idle, Filled, Ready, Placed, Stored, Seen, Whole, Guarded, AllInTurn, InTurn, synced, settled, stage_of}
-use Rattle.folder_protocol.specs.Goes.{AreJoined, IsJoined}
+use Rattle.folder_model.specs.Turn.{Stage, Idle, Filled, Ready, Placed, Stored, Seen, Whole, Guarded, InTurn, synced, settled, stage_of}
+use Rattle.folder_protocol.specs.Goes.{AreJoined}
 use Rattle.folder_protocol.proofs.Lines.{has_read_later}
 use Rattle.folder_turns.specs.Calls.{answered, call_asked, calls_after, found_of, is_done, write_of}
 use Rattle.folder_turns.specs.Guarding.{HasGuard, IsAhead, IsItsPart, Removes, alone_of, seen_of, synced_of, settled_of, guard_after, is_alone, is_at, is_guarded, is_seen, is_whole}

@@ -1,5 +1,5 @@
 -- What is known of a call that is asked for without a run.
-use Rattle.std.proofs.Common.{◌≡◌, ◌<◌, arith, ℕ, zero, suc, List, [], ◌∷◌, length, get_or, inl, inr, ap, Option, Some, None, Result, Ok, Err, IfOk, sym, subst, map}
+use Rattle.std.proofs.Common.{◌≡◌, ◌<◌, arith, ℕ, zero, suc, List, [], ◌∷◌, length, get_or, inl, inr, ap, Option, Some, None, Result, Ok, Err, IfOk, sym, map}
 use Rattle.folder_model.specs.Disk.{Among}
 use Rattle.std.specs.Prelude.{IfSome}
 use Rattle.std.specs.String.{string_bytes}

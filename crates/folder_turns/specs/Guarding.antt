@@ -1,7 +1,7 @@
 -- How far a turn is with the part in whose place it removes others.
-use Rattle.std.specs.Prelude.{◌≡◌, ◌&&◌, ◌++◌, ℕ, Bool, true, false, List, [], map, if◌then◌else◌, bytes_eq, Option, Some, None}
+use Rattle.std.specs.Prelude.{◌≡◌, ◌&&◌, ◌++◌, ℕ, Bool, true, false, List, [], map, if◌then◌else◌, bytes_eq, Option, Some}
 use Rattle.std.specs.String.{string_bytes}
-use Rattle.folder_model.specs.Call.{Call, Kind, Exclusive, Shared, Made, Wrote, Synced, Linked, Removed, Settled, Locked, Unlocked, Began, Listed, Read, Looked, lock_of}
+use Rattle.folder_model.specs.Call.{Call, Kind, Exclusive, Shared, Synced, Removed, Settled, Locked, Unlocked, Read, lock_of}
 use Rattle.folder_model.specs.Disk.{Among}
 use Rattle.folder_model.specs.Parts.{Parts}
 use Rattle.folder_model.specs.Turn.{Stage, Seen, Whole, Guarded, stage_of}

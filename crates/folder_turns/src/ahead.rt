@@ -77,9 +77,8 @@ fn next_keep(
         return Ok(None);
     };
     match (&last.request, &last.answer) {
-        (Request::ReadFile { .. }, Answer::Found { .. } | Answer::Noted { .. }) => Ok(Some(
-            Request::Sync,
-        )),
+        (Request::ReadFile { .. }, Answer::Found { .. }) => Ok(Some(Request::Sync)),
+        (Request::ReadFile { .. }, Answer::Noted { .. }) => Ok(Some(Request::Sync)),
         (Request::ReadFile { .. }, Answer::Missing) => next_read(alloc, names, reads),
         (Request::Sync, Answer::Done) => next_read(alloc, names, reads),
         _ => Ok(None),
