@@ -1,5 +1,7 @@
 mod Advances
 mod Begins
+mod CutTexts
+mod Cuts
 pub mod Dumps
 mod KnownFacts
 mod LineFacts
@@ -8,5 +10,8 @@ pub mod Pieces
 mod Ranges
 pub mod RowFacts
 mod RowTexts
+mod Starts
 mod Steps
+mod Takings
 mod WordFacts
+mod Wholes

@@ -1,6 +1,6 @@
 -- The rows that are to come, told further with each line that is read.
-use Rattle.std.specs.Prelude.{◌≡◌, ◌⊎◌, ℕ, suc, ◌+◌, length, List, [], ◌∷◌, ◌++◌, Option, Result, Ok, Err}
-use Rattle.std.proofs.Common.{refl, sym, ap, ◌∙◌, append_assoc, arith, inl, inr}
+use Rattle.std.specs.Prelude.{◌≡◌, ◌⊎◌, ℕ, suc, List, [], ◌∷◌, ◌++◌, Option, Result, Ok, Err}
+use Rattle.std.proofs.Common.{refl, sym, ap, ◌∙◌, append_assoc, inl, inr}
 use Rattle.table_model.specs.State.{Batch}
 use Rattle.table_model.specs.Table.{ColumnShape}
 use Rattle.table_model.specs.declared.refusal.Refusal.TheVariants.{Memory}
@@ -10,7 +10,7 @@ use Rattle.csv_rows.specs.LineReading.{FirstTooLong}
 use Rattle.csv_rows.specs.DialectForm.{DialectForm}
 use Rattle.csv_rows.specs.CsvText.{◌>>=◌, line_rows, before_rows, rows_from, header_order, header_rows}
 use Rattle.csv_rows.specs.Reading.{AsKnown}
-use Rattle.csv_rows.specs.RowReading.{lines_to_come, ReadsOn, NoLines, RefusesLines, RefusesHeader, CountsLines, IsBetweenLines}
+use Rattle.csv_rows.specs.RowReading.{lines_to_come, ReadsOn, NoLines, RefusesLines, RefusesHeader, IsBetweenLines}
 use Rattle.csv_rows.specs.declared.error.CsvError.{CsvError}
 use Rattle.csv_rows.specs.declared.error.CsvError.TheVariants.{BadCsv, LineTooLong, Refused}
 use Rattle.csv_rows.proofs.KnownFacts.{known_both, known_map, known_before, known_self}
@@ -125,29 +125,12 @@ header_none dialect columns old new a b none =
     known_before (λ bytes rest. (lines_of (old.pending ++ bytes) ≡ []) × (lines_of (new.pending ++ rest) ≡ [])) (λ bytes rest. header_rows dialect columns (lines_of (old.pending ++ bytes)) ≡ Err (BadCsv 1 0))
     (λ x y p. ap (header_rows dialect columns) p.0) a b none
 
--- ---- lines are counted
+-- no line is left
+pub none_between : (old new : LinesForm) (a b : Option (List ℕ)) → AsKnown (λ bytes rest. (lines_of (old.pending ++ bytes) ≡ []) × (lines_of (new.pending ++ rest) ≡ [])) a b → IsBetweenLines new a b
+none_between old new a b none =
+    known_map (λ bytes rest. (lines_of (old.pending ++ bytes) ≡ []) × (lines_of (new.pending ++ rest) ≡ [])) (λ bytes rest. lines_of (new.pending ++ rest) ≡ []) (λ x y p. p.1) a b none
 
-pub counts_next : (old new : LinesForm) (line : TextLine) (a b : Option (List ℕ)) → new.number ≡ suc old.number → Next old new line a b → CountsLines old new a b
-counts_next old new line a b more next =
-    known_map (λ bytes rest. lines_of (old.pending ++ bytes) ≡ line ∷ lines_of (new.pending ++ rest)) (λ bytes rest. old.number + length (lines_of (old.pending ++ bytes)) ≡ new.number + length (lines_of (new.pending ++ rest)))
-    (λ x y p. let len : length (lines_of (old.pending ++ x)) ≡ suc (length (lines_of (new.pending ++ y))) = ap length p in omega (arith, len, more)) a b next
-
-pub counts_none : (old new : LinesForm) (a b : Option (List ℕ)) → new.number ≡ old.number → AsKnown (λ bytes rest. (lines_of (old.pending ++ bytes) ≡ []) × (lines_of (new.pending ++ rest) ≡ [])) a b → CountsLines old new a b × IsBetweenLines new a b
-counts_none old new a b same none = (
-  known_map (λ bytes rest. (lines_of (old.pending ++ bytes) ≡ []) × (lines_of (new.pending ++ rest) ≡ [])) (λ bytes rest. old.number + length (lines_of (old.pending ++ bytes)) ≡ new.number + length (lines_of (new.pending ++ rest)))
-      (λ x y p. let before : length (lines_of (old.pending ++ x)) ≡ 0 = ap length p.0 in let after : length (lines_of (new.pending ++ y)) ≡ 0 = ap length p.1 in omega (arith, before, after, same)) a b none,
-  known_map (λ bytes rest. (lines_of (old.pending ++ bytes) ≡ []) × (lines_of (new.pending ++ rest) ≡ [])) (λ bytes rest. lines_of (new.pending ++ rest) ≡ []) (λ x y p. p.1) a b none,
-)
-
-pub counts_start : (lines : LinesForm) (a : Option (List ℕ)) → CountsLines lines lines a a
-counts_start lines a = known_self (λ bytes rest. lines.number + length (lines_of (lines.pending ++ bytes)) ≡ lines.number + length (lines_of (lines.pending ++ rest))) (λ x. refl) a
-
-pub counts_both : (first old new : LinesForm) (a b c : Option (List ℕ)) → CountsLines first old a b → CountsLines old new b c → CountsLines first new a c
-counts_both first old new a b c p q =
-    known_both (λ bytes rest. first.number + length (lines_of (first.pending ++ bytes)) ≡ old.number + length (lines_of (old.pending ++ rest))) (λ bytes rest. old.number + length (lines_of (old.pending ++ bytes)) ≡ new.number + length (lines_of (new.pending ++ rest)))
-    (λ bytes rest. first.number + length (lines_of (first.pending ++ bytes)) ≡ new.number + length (lines_of (new.pending ++ rest))) (λ x y z f g. f ∙ g) a b c p q
-
-pub between_after : (first old new : LinesForm) (a b c : Option (List ℕ)) → CountsLines first old a b → IsBetweenLines new b c → IsBetweenLines new a c
-between_after first old new a b c p q =
-    known_both (λ bytes rest. first.number + length (lines_of (first.pending ++ bytes)) ≡ old.number + length (lines_of (old.pending ++ rest))) (λ bytes rest. lines_of (new.pending ++ rest) ≡ []) (λ bytes rest. lines_of (new.pending ++ rest) ≡ [])
-    (λ x y z f g. g) a b c p q
+pub between_after : (dialect : DialectForm) (columns : List ColumnShape) (order : List (Option ℕ)) (first old new : LinesForm) (none rows : Batch) (a b c : Option (List ℕ)) → ReadsOn dialect columns order first old none rows a b → IsBetweenLines new b c → IsBetweenLines new a c
+between_after dialect columns order first old new none rows a b c p q =
+    known_both (λ bytes rest. lines_to_come dialect columns order first bytes ≡ before_rows p.0 (lines_to_come dialect columns order old rest)) (λ bytes rest. lines_of (new.pending ++ rest) ≡ []) (λ bytes rest. lines_of (new.pending ++ rest) ≡ [])
+    (λ x y z f g. g) a b c p.2 q

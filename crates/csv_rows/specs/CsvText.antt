@@ -144,6 +144,23 @@ abbrev pub lines_rows : DialectForm → Table → Bool → List TextLine → Res
 lines_rows dialect table true lines = header_rows dialect table.columns lines
 lines_rows dialect table false lines = rows_from dialect table.columns (plain_order dialect.order table.columns) 1 lines
 
+-- the order of the columns: that of the first line where there is a header
+abbrev pub heading_order : DialectForm → Table → Bool → List TextLine → Result (List (Option ℕ)) CsvError
+heading_order dialect table false lines = Ok (plain_order dialect.order table.columns)
+heading_order dialect table true [] = Err (BadCsv 1 0)
+heading_order dialect table true (header ∷ lines) = header_order dialect table.columns header
+
+-- the lines that are rows: those below the header, if there is one
+abbrev pub below_heading : Bool → List TextLine → List TextLine
+below_heading false lines = lines
+below_heading true [] = []
+below_heading true (header ∷ lines) = lines
+
+-- how many lines are a header
+abbrev pub headings : Bool → ℕ
+headings false = 0
+headings true = 1
+
 -- the rows of a text in a dialect, or its first fault
 abbrev pub rows_in : DialectForm → Table → Bool → List ℕ → Result Batch CsvError
 rows_in dialect table has_header text = lines_rows dialect table has_header (lines_of (unmarked text))

@@ -1,7 +1,8 @@
 pub mod CsvText
+pub mod CutTexts
 pub mod DialectForm
-pub mod FaultyField
 pub mod Field
+pub mod FieldColumn
 pub mod Line
 pub mod LineReading
 pub mod LinesForm

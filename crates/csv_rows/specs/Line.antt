@@ -1,5 +1,5 @@
 -- The lines of a text of comma-separated values: what its line feeds end, and what follows the last of them.
-use Rattle.std.specs.Prelude.{ℕ, Bool, true, false, ◌==◌, cond, List, [], ◌∷◌, length, Option, Some, None, option_map, option_and_then}
+use Rattle.std.specs.Prelude.{◌≡◌, ◌⊎◌, ℕ, Bool, true, false, ◌==◌, cond, List, [], ◌∷◌, ◌++◌, length, Option, Some, None, option_map, option_and_then}
 use Rattle.table_model.specs.Pieces.{pieces, without}
 
 -- how many bytes a line may have, without its end
@@ -55,3 +55,11 @@ after_mark text = option_and_then (without 191) (option_and_then (without 187) (
 -- a text without the byte order mark at its head, if there is one
 abbrev pub unmarked : List ℕ → List ℕ
 unmarked text = text_or (after_mark text) text
+
+-- a text whose last line has its end
+abbrev pub EndsLine : List ℕ → Type 0
+EndsLine text = (front : List ℕ) × (text ≡ front ++ (10 ∷ []))
+
+-- a text of whole lines: it has none, or the last one has its end
+abbrev pub AreWhole : List ℕ → Type 0
+AreWhole text = (text ≡ []) ⊎ EndsLine text

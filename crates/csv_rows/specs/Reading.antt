@@ -1,5 +1,5 @@
 -- What a reader of comma-separated values has read, and what is still to come of the text, where the bytes are known.
-use Rattle.std.specs.Prelude.{◌≡◌, ◌⊎◌, ℕ, suc, ◌+◌, ◌≤◌, ◌<◌, Bool, true, List, [], ◌++◌, length, Option, Some, None, Result, Ok, Err, OnOk, IfErr}
+use Rattle.std.specs.Prelude.{◌≡◌, ◌⊎◌, ℕ, suc, ◌+◌, ◌≤◌, ◌<◌, Bool, true, List, [], ◌∷◌, ◌++◌, length, Option, Some, None, Result, Ok, Err, OnOk, IfErr}
 use Rattle.table_model.specs.Counted.{one_more}
 use Rattle.table_model.specs.Faults.{read_limit}
 use Rattle.table_model.specs.State.{Batch}
@@ -7,8 +7,8 @@ use Rattle.table_model.specs.Table.{Table}
 use Rattle.table_model.specs.declared.refusal.Refusal.{Refusal}
 use Rattle.table_model.specs.declared.refusal.Refusal.TheVariants.{Memory, ReadFault}
 use Rattle.csv_rows.specs.DialectForm.{DialectForm, usual}
-use Rattle.csv_rows.specs.Line.{lines_of}
-use Rattle.csv_rows.specs.CsvText.{rows_in, rows_from, before_rows}
+use Rattle.csv_rows.specs.Line.{TextLine, lines_of, unmarked, EndsLine, AreWhole}
+use Rattle.csv_rows.specs.CsvText.{rows_in, rows_from, before_rows, heading_order, below_heading, headings}
 use Rattle.csv_rows.specs.declared.error.CsvError.{CsvError}
 use Rattle.csv_rows.specs.declared.error.CsvError.TheVariants.{Refused}
 
@@ -57,9 +57,52 @@ Gave old new rows before after = AsKnown (λ bytes rest. to_come old bytes ≡ b
 abbrev pub Filled : Reading → Reading → Batch → Batch → Option (List ℕ) → Option (List ℕ) → Type 0
 Filled old new rows rows' before after = (made : Batch) × (rows' ≡ rows ++ made) × Gave old new made before after
 
+-- these bytes without a byte order mark, which may be at the head of a text
+abbrev pub text_after : Option (List (Option ℕ)) → List ℕ → List ℕ
+text_after None bytes = unmarked bytes
+text_after (Some order) bytes = bytes
+
+-- the lines that are still to come, where the reader below has these bytes left
+abbrev pub lines_left : Reading → List ℕ → List TextLine
+lines_left csv bytes = lines_of (text_after csv.order (csv.pending ++ bytes))
+
+-- the order of the columns, which the first line gives where the text has a header, and which stays from then on
+abbrev pub order_given : Reading → Option (List (Option ℕ)) → List ℕ → Result (List (Option ℕ)) CsvError
+order_given csv None bytes = heading_order csv.dialect csv.table csv.has_header (lines_left csv bytes)
+order_given csv (Some order) bytes = Ok order
+
+-- the order of the columns is known
+abbrev pub Began : Reading → Reading → Option (List ℕ) → Type 0
+Began old new before = AsKnown (λ bytes rest. (order : List (Option ℕ)) × (new.order ≡ Some order) × (order_given old old.order bytes ≡ Ok order)) before before
+
+-- The text began: a byte order mark is passed over, the header, if there is one, gives the order and is counted, and the lines below it are
+-- still to come.
+abbrev pub Begins : Reading → Reading → Option (List ℕ) → Option (List ℕ) → Type 0
+Begins old new before after =
+    (order : List (Option ℕ)) × (new.order ≡ Some order) × (new.number ≡ headings old.has_header)
+    × AsKnown (λ bytes rest. (heading_order old.dialect old.table old.has_header (lines_left old bytes) ≡ Ok order) × (lines_of (new.pending ++ rest) ≡ below_heading old.has_header (lines_left old bytes))) before after
+
 -- each line that was read is counted
 abbrev pub CountsOn : Reading → Reading → Option (List ℕ) → Option (List ℕ) → Type 0
-CountsOn old new before after = AsKnown (λ bytes rest. old.number + length (lines_of (old.pending ++ bytes)) ≡ new.number + length (lines_of (new.pending ++ rest))) before after
+CountsOn old new before after = AsKnown (λ bytes rest. old.number + length (lines_left old bytes) ≡ new.number + length (lines_of (new.pending ++ rest))) before after
+
+-- These lines were read, and the rows behind those that were there are theirs.
+abbrev pub Takes : Reading → Reading → Batch → Batch → Option (List ℕ) → Option (List ℕ) → Type 0
+Takes old new rows rows' before after =
+    (order : List (Option ℕ)) × (taken : List TextLine) × (made : Batch) × (old.order ≡ Some order) × (rows' ≡ rows ++ made) × (rows_from old.dialect old.table.columns order (suc old.number) taken ≡ Ok made) × (new.number ≡ old.number + length taken)
+    × AsKnown (λ bytes rest. lines_of (old.pending ++ bytes) ≡ taken ++ lines_of (new.pending ++ rest)) before after
+
+-- Where the bytes are whole lines, so are those that are left; and whatever follows them, what is to come of all is the rows that were read
+-- behind those that were there, and then what is to come of what follows.
+abbrev pub GoesOn : Reading → Reading → Batch → Batch → Option (List ℕ) → Option (List ℕ) → Type 0
+GoesOn old new rows rows' before after =
+    (made : Batch) × (rows' ≡ rows ++ made)
+    × AsKnown (λ bytes rest. EndsLine (old.pending ++ bytes) → AreWhole (new.pending ++ rest) × ((more : List ℕ) → to_come old (bytes ++ more) ≡ before_rows made (to_come new (rest ++ more)))) before after
+
+-- where the bytes are whole lines, their first fault is that of the whole text, whatever follows them
+abbrev pub RefusesOn : Reading → CsvError → Option (List ℕ) → Type 0
+RefusesOn old (Refused refusal) before = Unit {0}
+RefusesOn old fault before = AsKnown (λ bytes rest. EndsLine (old.pending ++ bytes) → (more : List ℕ) → to_come old (bytes ++ more) ≡ Err fault) before before
 
 -- no line is left, so that what comes next begins a line
 abbrev pub IsAtLine : Reading → Option (List ℕ) → Option (List ℕ) → Type 0

@@ -55,8 +55,8 @@ impl Dialect {
         }
     }
 
-    /// The same dialect, in which the fields of each line have this order: a header is then any line that is no row, and a column
-    /// that no field is of is null in each row.
+    /// This dialect, but with an order for the fields of each line: a header is then any line that is no row, and a column that no field
+    /// is of is null in each row.
     pub fn with_order(self, order: Order) -> Dialect
         ensures { result ≡ record { separator = self.separator; null_word = self.null_word; order = Some order; needs_ends = self.needs_ends } }
     {
@@ -74,7 +74,8 @@ impl Dialect {
         }
     }
 
-    /// The same dialect, in which a last line without an end is refused before its fields are looked at: it may be cut off.
+    /// This dialect, but with an end needed by the last line too: without one it is refused before its fields are looked at, since it may
+    /// be cut off.
     pub fn with_ends(self) -> Dialect
         ensures { result ≡ record { separator = self.separator; null_word = self.null_word; order = self.order; needs_ends = true } }
     {

@@ -15,7 +15,7 @@ mod writer;
 
 pub use dialect::Dialect;
 pub use error::CsvError;
-pub use laws::written_rows_are_read;
+pub use laws::{first_faults_stay, pieces_are_read, written_rows_are_read};
 pub use lines::LINE_LIMIT;
 pub use order::{Order, WordError};
 pub use reader::CsvReader;

@@ -3,13 +3,12 @@ ghost use Rattle.std.specs.Prelude.{◌≡◌, ◌<◌, ◌≤◌, ◌+◌, ◌+
 ghost use Rattle.std.specs.Io.KnownBytes.{IsAtEnd};
 ghost use Rattle.table_model.specs.Faults.{read_limit};
 ghost use Rattle.table_model.specs.Table.{AreRows, row_limit};
-ghost use Rattle.csv_rows.specs.Reading.{at_start, at_start_in, to_come, AsKnown, CountsOn, Filled, Gave, IsAtLine, NothingToCome, Refuses, Came, Counts, ReadsOnward};
+ghost use Rattle.csv_rows.specs.Reading.{at_start, at_start_in, to_come, AsKnown, Began, Begins, CountsOn, Filled, Gave, GoesOn, IsAtLine, NothingToCome, Refuses, RefusesOn, Takes, Came, Counts, ReadsOnward};
 ghost use Rattle.csv_rows.specs.CsvText.{is_cut, header_rows, rows_from};
-ghost use Rattle.csv_rows.specs.FaultyField.{field_at, faulty_field, shown, column_of};
+ghost use Rattle.csv_rows.specs.FieldColumn.{column_of};
 ghost use Rattle.csv_rows.specs.Line.{lines_of, text_line};
-ghost use Rattle.csv_rows.specs.RowReading.{CountsLines, IsBetweenLines, ReadsOn, RefusesLines, RefusesHeader, NoLines};
+ghost use Rattle.csv_rows.specs.RowReading.{IsBetweenLines, ReadsHeading, ReadsOn, RefusesLines, RefusesHeader, NoLines, TakesLines};
 
-use crate::bytes::first_field;
 use crate::dialect::Dialect;
 use crate::error::CsvError;
 use crate::header::order_of_header;
@@ -23,9 +22,6 @@ use table_model::{Column, Counted, MAX_ROWS, READ_LIMIT, Refusal, Rows, Schema};
 
 /// How many lines are read at most: each but the last has a byte at least.
 const TURNS: u64 = READ_LIMIT + 1;
-
-/// How many bytes of a field are shown.
-const SHOWN: usize = 40;
 
 /// A reader of the rows of a text of comma-separated values. It keeps a line of the text, and a chunk of 65,536 bytes.
 #[derive(Drop)]
@@ -57,7 +53,8 @@ impl CsvReader {
         CsvReader::in_dialect(alloc, schema, has_header, Dialect::usual())
     }
 
-    /// The same, of a text in this dialect.
+    /// A reader of rows of this schema, from the start of a text in this dialect. If the text has a header, its first line gives the order
+    /// of the columns, or is passed over where the dialect has an order. It reads nothing yet.
     pub fn in_dialect(
         alloc: Global,
         schema: &Schema,
@@ -80,7 +77,8 @@ impl CsvReader {
     /// Reads the next rows: 65,536 of them, or fewer, possibly none, if they are the last.
     ///
     /// `BadCsv` and `LineTooLong` are the first fault of the text; `ReadFault` is answered only if the reader below failed or
-    /// gave more than 2^48 bytes. After an error only [`CsvReader::line`] and [`CsvReader::faulty_field`] are of use.
+    /// gave more than 2^48 bytes. After an error only [`CsvReader::line`], [`CsvReader::is_cut`] and
+    /// [`CsvReader::column_of`] are of use.
     pub fn next_batch<R: Read>(
         &mut self,
         alloc: Global,
@@ -130,8 +128,11 @@ impl CsvReader {
         ensures kept { OnOk result (reader.new.1 ≡ reader.old.1) }
         ensures counts { IfErr result (λ e. Counts (read_limit < self.new.given) e reader.old.1 reader.new.1) }
         ensures order { IsSome self.old.order → self.new.order ≡ self.old.order }
-        ensures counted { OnOk result (IsSome self.old.order → CountsOn self.old self.new (R.remaining reader.old.0) (R.remaining reader.new.0)) }
-        ensures between { OnOk result (IsSome self.old.order → length rows.new < row_limit → IsAtLine self.new (R.remaining reader.old.0) (R.remaining reader.new.0)) }
+        ensures began { OnOk result (Began self.old self.new (R.remaining reader.old.0)) }
+        ensures counted { OnOk result (CountsOn self.old self.new (R.remaining reader.old.0) (R.remaining reader.new.0)) }
+        ensures between { OnOk result (length rows.new < row_limit → IsAtLine self.new (R.remaining reader.old.0) (R.remaining reader.new.0)) }
+        ensures onward { OnOk result (GoesOn self.old self.new rows.old rows.new (R.remaining reader.old.0) (R.remaining reader.new.0)) }
+        ensures refused { IfErr result (λ e. RefusesOn self.old e (R.remaining reader.old.0)) }
     {
         if self.lines.given() > READ_LIMIT {
             return Err(CsvError::Refused(Refusal::ReadFault));
@@ -156,17 +157,6 @@ impl CsvReader {
         self.dialect.is_cut(self.lines.has_end())
     }
 
-    /// The first 40 bytes of a field of the line that was read last, by its column, counted from 1: after `BadCsv` those of the
-    /// faulty field. There are none if the line does not have that field.
-    pub fn faulty_field(&self, column: u64) -> &[u8]
-        ensures { result.now ≡ shown (faulty_field self.now column) }
-    {
-        if column == 0 {
-            return b"";
-        }
-        shown(field_at(self.lines.line(), self.dialect.separator(), column - 1))
-    }
-
     /// The place in the schema, from 0, of the column to which a field belongs, by the field's column in the text, counted from 1:
     /// after `BadCsv` in a row, that of the faulty field's column. None for a field of the header and one that is passed over, and if a
     /// line does not have that field.
@@ -189,6 +179,7 @@ impl CsvReader {
     fn begin<R: Read>(&mut self, alloc: Global, reader: &mut Counted<R>) -> Result<(), CsvError>
         requires { self.old.order ≡ None }
         ensures begun { OnOk result (IsSome self.new.order) }
+        ensures begins { OnOk result (Begins self.old self.new (R.remaining reader.old.0) (R.remaining reader.new.0)) }
         ensures rows { OnOk result (AsKnown (λ bytes rest. to_come self.old bytes ≡ to_come self.new rest) (R.remaining reader.old.0) (R.remaining reader.new.0)) }
         ensures further { self.old.number ≤ self.new.number }
         ensures table { self.new.table ≡ self.old.table }
@@ -235,7 +226,7 @@ impl CsvReader {
         ensures reads { ReadsOnward R.remaining Counts self.old.given self.new.given reader.old reader.new result }
         ensures within { OnOk result (self.new.given ≤ read_limit) }
         ensures order { self.new.order ≡ self.old.order }
-        ensures counted { OnOk result (CountsOn self.old self.new (R.remaining reader.old.0) (R.remaining reader.new.0)) }
+        ensures taken { OnOk result (Takes self.old self.new rows.old rows.new (R.remaining reader.old.0) (R.remaining reader.new.0)) }
         ensures between { OnOk result (length rows.new < row_limit → IsAtLine self.new (R.remaining reader.old.0) (R.remaining reader.new.0)) }
     {
         let Some(order) = &self.order else {
@@ -263,6 +254,7 @@ fn read_order<R: Read>(
     reader: &mut Counted<R>,
 ) -> Result<Order, CsvError>
     ensures order { IfOk result (λ order. AsKnown (λ bytes rest. header_rows dialect.now columns.now (lines_of (lines.old.pending ++ bytes)) ≡ rows_from dialect.now columns.now order 2 (lines_of (lines.new.pending ++ rest))) (R.remaining reader.old.0) (R.remaining reader.new.0)) }
+    ensures heading { IfOk result (λ order. ReadsHeading dialect.now columns.now lines.old lines.new order (R.remaining reader.old.0) (R.remaining reader.new.0)) }
     ensures number { IfOk result (λ _. lines.new.number ≡ suc lines.old.number) }
     ensures further { lines.old.number ≤ lines.new.number }
     ensures fault { IfErr result (λ e. RefusesHeader dialect.now columns.now lines.old e (R.remaining reader.old.0)) }
@@ -296,7 +288,7 @@ fn read_line<R: Read>(
     ensures bound { OnOk result (lines.new.number ≤ read_limit) }
     ensures reads { ReadsOnward R.remaining Counts lines.old.given lines.new.given reader.old reader.new result }
     ensures within { OnOk result (lines.new.given ≤ read_limit) }
-    ensures counted { OnOk result (CountsLines lines.old lines.new (R.remaining reader.old.0) (R.remaining reader.new.0)) }
+    ensures taken { OnOk result (TakesLines dialect.now columns.now order.now lines.old lines.new rows.old rows.new (R.remaining reader.old.0) (R.remaining reader.new.0)) }
     ensures between { IfOk result (λ found. IsFalse found → IsBetweenLines lines.new (R.remaining reader.old.0) (R.remaining reader.new.0)) }
 {
     match lines.advance(reader)? {
@@ -332,7 +324,7 @@ fn fill_rows<R: Read>(
     ensures fault { IfErr result (λ e. RefusesLines dialect.now columns.now order.now lines.old e (R.remaining reader.old.0)) }
     ensures reads { ReadsOnward R.remaining Counts lines.old.given lines.new.given reader.old reader.new result }
     ensures within { OnOk result (lines.new.given ≤ read_limit) }
-    ensures counted { OnOk result (CountsLines lines.old lines.new (R.remaining reader.old.0) (R.remaining reader.new.0)) }
+    ensures taken { OnOk result (TakesLines dialect.now columns.now order.now lines.old lines.new rows.old rows.new (R.remaining reader.old.0) (R.remaining reader.new.0)) }
     ensures between { OnOk result (length rows.new < row_limit → IsBetweenLines lines.new (R.remaining reader.old.0) (R.remaining reader.new.0)) }
 {
     let mut cells = Vec::new(alloc);
@@ -345,29 +337,4 @@ fn fill_rows<R: Read>(
         }
     }
     Err(CsvError::Refused(Refusal::ReadFault))
-}
-
-/// The first bytes of a field.
-fn shown(field: &[u8]) -> &[u8]
-    ensures { result.now ≡ shown field.now }
-{
-    let (front, _) = field.split_at(SHOWN.min(field.len()));
-    front
-}
-
-/// The field of a line at this place, counted from 0; empty if the line does not have it.
-fn field_at(line: &[u8], separator: u8, place: u64) -> &[u8]
-    ensures { result.now ≡ field_at separator line.now place }
-{
-    let mut before = place;
-    let mut rest = Some(line);
-    while let Some(text) = rest {
-        let (field, after) = first_field(text, separator);
-        if before == 0 {
-            return field;
-        }
-        before -= 1;
-        rest = after;
-    }
-    b""
 }

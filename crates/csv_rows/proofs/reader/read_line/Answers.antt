@@ -4,7 +4,8 @@ use Rattle.csv_rows.specs.declared.lines.Found.{Found}
 use Rattle.csv_rows.specs.LineReading.{Finds}
 use Rattle.csv_rows.specs.LinesForm.{last_read}
 use Rattle.csv_rows.proofs.RowFacts.{behind_fits, counts_line}
-use Rattle.csv_rows.proofs.Steps.{counts_next, counts_none, line_too_long}
+use Rattle.csv_rows.proofs.Steps.{none_between, line_too_long}
+use Rattle.csv_rows.proofs.Takings.{takes_line, takes_none}
 use Rattle.csv_rows.proofs.reader.read_line.Goals as goal
 
 pub returns-in_err-push_row-in-Line-clause-reads : goal.returns-in_err-push_row-in-Line-clause-reads
@@ -27,17 +28,18 @@ returns-in-TooLong-clause-fault g c =
     let found = subst (λ (f : Found). Finds f c.args.lines.now c.advance.new.self (g.R.Read.remaining c.args.reader.now.0) (g.R.Read.remaining c.advance.new.reader.0)) c.in-TooLong.is c.in_ok-advance.ensures.found in
     line_too_long c.args.dialect.now c.args.columns.now c.args.order.now c.args.lines.now (c.number.result + 1) (g.R.Read.remaining c.args.reader.now.0) (g.R.Read.remaining c.advance.new.reader.0) (omega (arith, c.number.ensures, found.0)) found.1
 
-pub returns-in_ok-push_row-in-Line-clause-counted : goal.returns-in_ok-push_row-in-Line-clause-counted
-returns-in_ok-push_row-in-Line-clause-counted g c =
+pub returns-in_ok-push_row-in-Line-clause-taken : goal.returns-in_ok-push_row-in-Line-clause-taken
+returns-in_ok-push_row-in-Line-clause-taken g c =
     let found = subst (λ (f : Found). Finds f c.args.lines.now c.advance.new.self (g.R.Read.remaining c.args.reader.now.0) (g.R.Read.remaining c.advance.new.reader.0)) c.in-Line.is c.in_ok-advance.ensures.found in
-    counts_next c.args.lines.now c.advance.new.self (last_read c.advance.new.self) (g.R.Read.remaining c.args.reader.now.0) (g.R.Read.remaining c.advance.new.reader.0) found.0 found.2
+    takes_line c.args.dialect.now c.args.columns.now c.args.order.now c.args.lines.now c.advance.new.self (last_read c.advance.new.self) c.in_ok-push_row-in-Line.ensures.rows.0 c.args.rows.now c.push_row.new.rows (g.R.Read.remaining c.args.reader.now.0) (g.R.Read.remaining c.advance.new.reader.0)
+    found.0 found.2 c.in_ok-push_row-in-Line.ensures.rows.1 c.in_ok-push_row-in-Line.ensures.rows.2
 
-pub returns-in-End-clause-counted : goal.returns-in-End-clause-counted
-returns-in-End-clause-counted g c =
+pub returns-in-End-clause-taken : goal.returns-in-End-clause-taken
+returns-in-End-clause-taken g c =
     let found = subst (λ (f : Found). Finds f c.args.lines.now c.advance.new.self (g.R.Read.remaining c.args.reader.now.0) (g.R.Read.remaining c.advance.new.reader.0)) c.in-End.is c.in_ok-advance.ensures.found in
-    let both = counts_none c.args.lines.now c.advance.new.self (g.R.Read.remaining c.args.reader.now.0) (g.R.Read.remaining c.advance.new.reader.0) found.0 found.2 in both.0
+    takes_none c.args.dialect.now c.args.columns.now c.args.order.now c.args.lines.now c.advance.new.self c.args.rows.now (g.R.Read.remaining c.args.reader.now.0) (g.R.Read.remaining c.advance.new.reader.0) found.0 found.2
 
 pub returns-in-End-clause-between : goal.returns-in-End-clause-between
 returns-in-End-clause-between g c = λ h.
     let found = subst (λ (f : Found). Finds f c.args.lines.now c.advance.new.self (g.R.Read.remaining c.args.reader.now.0) (g.R.Read.remaining c.advance.new.reader.0)) c.in-End.is c.in_ok-advance.ensures.found in
-    let both = counts_none c.args.lines.now c.advance.new.self (g.R.Read.remaining c.args.reader.now.0) (g.R.Read.remaining c.advance.new.reader.0) found.0 found.2 in both.1
+    none_between c.args.lines.now c.advance.new.self (g.R.Read.remaining c.args.reader.now.0) (g.R.Read.remaining c.advance.new.reader.0) found.2
