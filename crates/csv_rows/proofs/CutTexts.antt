@@ -3,7 +3,7 @@ use Rattle.std.specs.Prelude.{◌≡◌, ℕ, suc, ◌+◌, Bool, true, false, L
 use Rattle.std.proofs.Common.{refl, sym, ap, ◌∙◌, arith, subst}
 use Rattle.table_model.specs.State.{Batch}
 use Rattle.table_model.specs.Table.{Table}
-use Rattle.csv_rows.specs.CsvText.{◌>>=◌, before_rows, rows_from, rows_in, header_order, heading_order, header_rows, lines_rows, plain_order}
+use Rattle.csv_rows.specs.CsvText.{◌>>=◌, before_rows, rows_from, header_order, heading_order, lines_rows, plain_order}
 use Rattle.csv_rows.specs.CutTexts.{Place, place_after, place_behind, rows_behind, rows_of_pieces, joined, AreCut}
 use Rattle.csv_rows.specs.DialectForm.{DialectForm}
 use Rattle.csv_rows.specs.Line.{TextLine, lines_of, unmarked, EndsLine}

@@ -1,11 +1,11 @@
 mod Advances
 mod Begins
-mod CutTexts
-mod Cuts
+pub mod CutTexts
+pub mod Cuts
 pub mod Dumps
 mod KnownFacts
-mod LineFacts
-mod Marks
+pub mod LineFacts
+pub mod Marks
 pub mod Pieces
 mod Ranges
 pub mod RowFacts
@@ -14,4 +14,4 @@ mod Starts
 mod Steps
 mod Takings
 mod WordFacts
-mod Wholes
+pub mod Wholes

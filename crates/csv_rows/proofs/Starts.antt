@@ -1,7 +1,7 @@
 -- A call that reads rows begins the text first, unless that was done: what it says of the rows holds from its start on.
-use Rattle.std.specs.Prelude.{◌≡◌, ◌⊎◌, ℕ, ◌<◌, Bool, true, false, not, List, ◌++◌, length, Option, Some, None, Result, Ok, Err, OnOk, IfErr, IfNone}
+use Rattle.std.specs.Prelude.{◌≡◌, ◌⊎◌, ℕ, Bool, true, false, not, List, Option, Some, None, Result, Ok, Err, OnOk, IfErr, IfNone}
 use Rattle.std.specs.Option.{is_some}
-use Rattle.std.proofs.Common.{refl, sym, ap, ◌∙◌, subst, inl, inr}
+use Rattle.std.proofs.Common.{refl, ap, ◌∙◌, subst, inl, inr}
 use Rattle.table_model.specs.State.{Batch}
 use Rattle.csv_rows.specs.Reading.{Reading, Takes, Begins, Began, CountsOn, GoesOn, IsAtLine, Refuses, RefusesOn}
 use Rattle.csv_rows.specs.declared.error.CsvError.{CsvError}

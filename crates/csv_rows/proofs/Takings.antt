@@ -1,13 +1,13 @@
 -- The lines that were read one after another, the rows that they made, and what is to come of a text that goes on behind them.
-use Rattle.std.specs.Prelude.{◌≡◌, ◌⊎◌, ℕ, suc, ◌+◌, Bool, true, false, List, [], ◌∷◌, ◌++◌, length, Option, Some, None, Result, Ok, Err}
-use Rattle.std.proofs.Common.{refl, sym, ap, ◌∙◌, append_assoc, arith, subst}
+use Rattle.std.specs.Prelude.{◌≡◌, ℕ, suc, ◌+◌, Bool, true, false, List, [], ◌∷◌, ◌++◌, length, Option, Some, None, Result, Ok, Err}
+use Rattle.std.proofs.Common.{refl, sym, ap, ◌∙◌, append_assoc, arith}
 use Rattle.std.proofs.lemmas.List.{append-nil, length-append}
 use Rattle.table_model.specs.State.{Batch}
 use Rattle.table_model.specs.Table.{Table, ColumnShape}
 use Rattle.csv_rows.specs.Line.{TextLine, lines_of, unmarked, EndsLine, AreWhole}
 use Rattle.csv_rows.specs.LinesForm.{LinesForm}
 use Rattle.csv_rows.specs.DialectForm.{DialectForm}
-use Rattle.csv_rows.specs.CsvText.{◌>>=◌, line_rows, before_rows, rows_from, rows_in, header_order, lines_rows, heading_order, below_heading, headings, plain_order}
+use Rattle.csv_rows.specs.CsvText.{◌>>=◌, line_rows, before_rows, rows_from, lines_rows, heading_order, below_heading, headings, plain_order}
 use Rattle.csv_rows.specs.CutTexts.{Place, rows_behind}
 use Rattle.csv_rows.specs.Reading.{Reading, AsKnown, Takes, Begins, Began, CountsOn, GoesOn, IsAtLine, RefusesOn, Refuses, text_after, lines_left, order_given, rows_after, to_come}
 use Rattle.csv_rows.specs.RowReading.{lines_to_come, ReadsOn, TakesLines, ReadsHeading}
@@ -17,7 +17,7 @@ use Rattle.csv_rows.proofs.Begins.{Unmarks, Same}
 use Rattle.csv_rows.proofs.Cuts.{rows_both}
 use Rattle.csv_rows.proofs.CutTexts.{fault_stays}
 use Rattle.csv_rows.proofs.KnownFacts.{known_both, known_map, known_before, known_self}
-use Rattle.csv_rows.proofs.RowFacts.{before_both, before_nothing}
+use Rattle.csv_rows.proofs.RowFacts.{before_nothing}
 use Rattle.csv_rows.proofs.Steps.{Next}
 use Rattle.csv_rows.proofs.Wholes.{lines_on, unmarked_ends, unmarked_on, ended_lines, below_ended, whole_left, rows_on, rows_below}
 

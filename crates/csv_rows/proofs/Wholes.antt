@@ -1,17 +1,16 @@
 -- Whole lines: a text that ends with a line feed goes on with the next line, and what is left of it is whole again.
-use Rattle.std.specs.Prelude.{◌≡◌, ◌⊎◌, ℕ, suc, ◌+◌, Bool, true, false, cond, ◌==◌, List, [], ◌∷◌, ◌++◌, length, Option, Some, None, option_and_then, Result, Ok, Err}
+use Rattle.std.specs.Prelude.{◌≡◌, ℕ, suc, ◌+◌, Bool, true, false, cond, ◌==◌, List, [], ◌∷◌, ◌++◌, length, Option, Some, None, option_and_then, Result, Ok}
 use Rattle.std.proofs.Common.{refl, sym, ap, ◌∙◌, arith, append_assoc, inl, inr, subst}
 use Rattle.std.proofs.lemmas.Bool.{eqb-true}
 use Rattle.table_model.specs.Pieces.{pieces, onto_first, without}
 use Rattle.table_model.specs.State.{Batch}
 use Rattle.table_model.specs.Table.{Table, ColumnShape}
-use Rattle.csv_rows.specs.CsvText.{◌>>=◌, before_rows, rows_from, header_order, header_rows, lines_rows, heading_order, below_heading, headings, plain_order}
+use Rattle.csv_rows.specs.CsvText.{◌>>=◌, before_rows, rows_from, lines_rows, heading_order, below_heading, headings, plain_order}
 use Rattle.csv_rows.specs.DialectForm.{DialectForm}
 use Rattle.csv_rows.specs.Line.{TextLine, text_or, ended, unended, lines_between, lines_of, unmarked, without_return, EndsLine, AreWhole}
 use Rattle.csv_rows.specs.declared.error.CsvError.{CsvError}
 use Rattle.csv_rows.proofs.Cuts.{all_ended, lines_cut, pieces_cut, between_both, rows_both}
 use Rattle.csv_rows.proofs.Pieces.{first_piece}
-use Rattle.csv_rows.proofs.RowFacts.{before_nothing}
 
 -- ---- a text goes on
 

@@ -1,10 +1,10 @@
 -- Texts of comma-separated values that are cut behind line feeds into pieces.
-use Rattle.std.specs.Prelude.{◌≡◌, ℕ, suc, ◌+◌, Bool, List, [], ◌∷◌, ◌++◌, length, Option, Some, None, option_map, Result, Ok, Err}
+use Rattle.std.specs.Prelude.{◌≡◌, ℕ, suc, ◌+◌, Bool, List, [], ◌∷◌, ◌++◌, length, Option, Some, None, Result, Ok, Err}
 use Rattle.table_model.specs.State.{Batch}
 use Rattle.table_model.specs.Table.{Table}
 use Rattle.csv_rows.specs.CsvText.{◌>>=◌, before_rows, heading_order, rows_from, rows_in}
 use Rattle.csv_rows.specs.DialectForm.{DialectForm}
-use Rattle.csv_rows.specs.Line.{TextLine, EndsLine, lines_of, unmarked}
+use Rattle.csv_rows.specs.Line.{EndsLine, lines_of, unmarked}
 use Rattle.csv_rows.specs.declared.error.CsvError.{CsvError}
 
 -- A place in a text, between two lines: the order of the columns, and how many lines are before it.

@@ -1,5 +1,5 @@
 -- What a reader of comma-separated values has read, and what is still to come of the text, where the bytes are known.
-use Rattle.std.specs.Prelude.{◌≡◌, ◌⊎◌, ℕ, suc, ◌+◌, ◌≤◌, ◌<◌, Bool, true, List, [], ◌∷◌, ◌++◌, length, Option, Some, None, Result, Ok, Err, OnOk, IfErr}
+use Rattle.std.specs.Prelude.{◌≡◌, ◌⊎◌, ℕ, suc, ◌+◌, ◌≤◌, ◌<◌, Bool, true, List, [], ◌++◌, length, Option, Some, None, Result, Ok, Err, OnOk, IfErr}
 use Rattle.table_model.specs.Counted.{one_more}
 use Rattle.table_model.specs.Faults.{read_limit}
 use Rattle.table_model.specs.State.{Batch}

@@ -1,5 +1,5 @@
 -- Each line's rows come behind those of the lines before it.
-use Rattle.std.proofs.Common.{◌∙◌, rules}
+use Rattle.std.proofs.Common.{rules}
 use Rattle.csv_rows.proofs.KnownFacts.{came_start, came_both}
 use Rattle.csv_rows.proofs.Steps.{reads_both}
 use Rattle.csv_rows.proofs.Takings.{reads_begin, takes_start, takes_both}

@@ -1,5 +1,5 @@
 -- The text begins in this call, or it began in one before.
-use Rattle.std.specs.Prelude.{◌≡◌, ◌<◌, ℕ, List, length, Option, Some, None, OnOk}
+use Rattle.std.specs.Prelude.{◌≡◌, ℕ, None, OnOk}
 use Rattle.std.proofs.Common.{sym, ap, ◌∙◌, subst, inl, inr}
 use Rattle.std.proofs.lemmas.Result.{err_from_is_err_and}
 use Rattle.csv_rows.specs.Reading.{Reading, Begins, Takes}
