@@ -3,7 +3,7 @@ use Rattle.std.specs.Prelude.{◌≡◌, ◌⊎◌, ℕ, Bool, true, false, not,
 use Rattle.std.specs.Option.{is_some}
 use Rattle.std.proofs.Common.{refl, ap, ◌∙◌, subst, inl, inr}
 use Rattle.table_model.specs.State.{Batch}
-use Rattle.csv_rows.specs.Reading.{Reading, Takes, Begins, Began, CountsOn, GoesOn, IsAtLine, Refuses, RefusesOn}
+use Rattle.csv_rows.specs.Reading.{Reading, RowsOfLines, Begins, Began, CountsOn, GoesOn, IsAtLine, Refuses, RefusesOn}
 use Rattle.csv_rows.specs.declared.error.CsvError.{CsvError}
 use Rattle.csv_rows.proofs.Begins.{Same, fault_after_begin}
 use Rattle.csv_rows.proofs.Takings.{goes_first, goes_later, began_first, began_later, counts_first, counts_later, at_line_after_begin, refuses_on}
@@ -19,7 +19,7 @@ pub record Read (mid new : Reading) (rows rows' : Batch) (b c : Option (List ℕ
   pub order : new.order ≡ mid.order
   pub table : new.table ≡ mid.table
   pub dialect : new.dialect ≡ mid.dialect
-  pub takes : Takes mid new rows rows' b c
+  pub takes : RowsOfLines mid new rows rows' b c
 
 pub goes_on : (old mid new : Reading) (rows rows' : Batch) (a b c : Option (List ℕ)) → Started old mid a b → Read mid new rows rows' b c → GoesOn old new rows rows' a c
 goes_on old mid new rows rows' a b c start read = by start.how where

@@ -9,7 +9,7 @@ use Rattle.csv_rows.specs.LinesForm.{LinesForm}
 use Rattle.csv_rows.specs.DialectForm.{DialectForm}
 use Rattle.csv_rows.specs.CsvText.{◌>>=◌, line_rows, before_rows, rows_from, lines_rows, heading_order, below_heading, headings, plain_order}
 use Rattle.csv_rows.specs.CutTexts.{Place, rows_behind}
-use Rattle.csv_rows.specs.Reading.{Reading, AsKnown, Takes, Begins, Began, CountsOn, GoesOn, IsAtLine, RefusesOn, Refuses, text_after, lines_left, order_given, rows_after, to_come}
+use Rattle.csv_rows.specs.Reading.{Reading, AsKnown, RowsOfLines, Begins, Began, CountsOn, GoesOn, IsAtLine, RefusesOn, Refuses, text_after, lines_left, order_given, rows_after, to_come}
 use Rattle.csv_rows.specs.RowReading.{lines_to_come, ReadsOn, TakesLines, ReadsHeading}
 use Rattle.csv_rows.specs.declared.error.CsvError.{CsvError}
 use Rattle.csv_rows.specs.declared.error.CsvError.TheVariants.{BadCsv, LineTooLong, Refused}
@@ -87,7 +87,7 @@ takes_both dialect columns order first old new none rows rows' a b c p q =
 -- ---- the same of a reader of rows
 
 pub takes_rows : (old new : Reading) (order : List (Option ℕ)) (lines lines' : LinesForm) (rows rows' : Batch) (a b : Option (List ℕ)) → old.order ≡ Some order → old.number ≡ lines.number → old.pending ≡ lines.pending → new.number ≡ lines'.number → new.pending ≡ lines'.pending
-    → TakesLines old.dialect old.table.columns order lines lines' rows rows' a b → Takes old new rows rows' a b
+    → TakesLines old.dialect old.table.columns order lines lines' rows rows' a b → RowsOfLines old new rows rows' a b
 takes_rows old new order lines lines' rows rows' a b some number pending number' pending' taken = (
   order,
   taken.0,
@@ -120,7 +120,7 @@ come_next old new order k bytes some same alike number =
     (λ i. rows_from (sym alike i) (sym same i).columns order (suc (sym number i)) (lines_of (new.pending ++ bytes))) ∙ sym (come_some new order bytes some)
 
 -- a later piece
-pub goes_later : (old new : Reading) (rows rows' : Batch) (a b : Option (List ℕ)) → new.order ≡ old.order → new.table ≡ old.table → new.dialect ≡ old.dialect → Takes old new rows rows' a b → GoesOn old new rows rows' a b
+pub goes_later : (old new : Reading) (rows rows' : Batch) (a b : Option (List ℕ)) → new.order ≡ old.order → new.table ≡ old.table → new.dialect ≡ old.dialect → RowsOfLines old new rows rows' a b → GoesOn old new rows rows' a b
 goes_later old new rows rows' a b kept same alike takes = (
   takes.2,
   takes.4,
@@ -155,7 +155,7 @@ first_lines old mid new order taken a b c p q =
     (λ x y z f g. (f.0, sym f.1 ∙ g)) a b c p q
 
 pub goes_first : (old mid new : Reading) (rows rows' : Batch) (a b c : Option (List ℕ)) → old.order ≡ None → mid.table ≡ old.table → mid.dialect ≡ old.dialect → new.order ≡ mid.order → new.table ≡ mid.table → new.dialect ≡ mid.dialect
-    → Begins old mid a b → Takes mid new rows rows' b c → GoesOn old new rows rows' a c
+    → Begins old mid a b → RowsOfLines mid new rows rows' b c → GoesOn old new rows rows' a c
 goes_first old mid new rows rows' a b c none same alike kept same' alike' begins takes =
     let order : List (Option ℕ) = begins.0 in
     let is : takes.0 ≡ order = (let both : Some takes.0 ≡ Some order = sym takes.3 ∙ begins.1 in cc) in
@@ -227,7 +227,7 @@ began_first old mid new a b none kept begins =
 
 -- ---- lines are counted
 
-pub counts_later : (old new : Reading) (rows rows' : Batch) (a b : Option (List ℕ)) → Takes old new rows rows' a b → CountsOn old new a b
+pub counts_later : (old new : Reading) (rows rows' : Batch) (a b : Option (List ℕ)) → RowsOfLines old new rows rows' a b → CountsOn old new a b
 counts_later old new rows rows' a b takes =
     known_map (λ bytes rest. lines_of (old.pending ++ bytes) ≡ takes.1 ++ lines_of (new.pending ++ rest)) (λ bytes rest. old.number + length (lines_left old bytes) ≡ new.number + length (lines_of (new.pending ++ rest)))
     (λ x y p.
@@ -239,7 +239,7 @@ header_counted dialect table false lines order is = omega arith
 header_counted dialect table true [] order is = cc
 header_counted dialect table true (heading ∷ lines) order is = omega arith
 
-pub counts_first : (old mid new : Reading) (rows rows' : Batch) (a b c : Option (List ℕ)) → old.number ≡ 0 → Begins old mid a b → Takes mid new rows rows' b c → CountsOn old new a c
+pub counts_first : (old mid new : Reading) (rows rows' : Batch) (a b c : Option (List ℕ)) → old.number ≡ 0 → Begins old mid a b → RowsOfLines mid new rows rows' b c → CountsOn old new a c
 counts_first old mid new rows rows' a b c nothing begins takes =
     known_map (λ bytes rest. (heading_order old.dialect old.table old.has_header (lines_left old bytes) ≡ Ok begins.0) × (below_heading old.has_header (lines_left old bytes) ≡ takes.1 ++ lines_of (new.pending ++ rest)))
     (λ bytes rest. old.number + length (lines_left old bytes) ≡ new.number + length (lines_of (new.pending ++ rest)))

@@ -87,8 +87,8 @@ abbrev pub CountsOn : Reading → Reading → Option (List ℕ) → Option (List
 CountsOn old new before after = AsKnown (λ bytes rest. old.number + length (lines_left old bytes) ≡ new.number + length (lines_of (new.pending ++ rest))) before after
 
 -- These lines were read, and the rows behind those that were there are theirs.
-abbrev pub Takes : Reading → Reading → Batch → Batch → Option (List ℕ) → Option (List ℕ) → Type 0
-Takes old new rows rows' before after =
+abbrev pub RowsOfLines : Reading → Reading → Batch → Batch → Option (List ℕ) → Option (List ℕ) → Type 0
+RowsOfLines old new rows rows' before after =
     (order : List (Option ℕ)) × (taken : List TextLine) × (made : Batch) × (old.order ≡ Some order) × (rows' ≡ rows ++ made) × (rows_from old.dialect old.table.columns order (suc old.number) taken ≡ Ok made) × (new.number ≡ old.number + length taken)
     × AsKnown (λ bytes rest. lines_of (old.pending ++ bytes) ≡ taken ++ lines_of (new.pending ++ rest)) before after
 

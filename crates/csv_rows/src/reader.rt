@@ -3,7 +3,7 @@ ghost use Rattle.std.specs.Prelude.{◌≡◌, ◌<◌, ◌≤◌, ◌+◌, ◌+
 ghost use Rattle.std.specs.Io.KnownBytes.{IsAtEnd};
 ghost use Rattle.table_model.specs.Faults.{read_limit};
 ghost use Rattle.table_model.specs.Table.{AreRows, row_limit};
-ghost use Rattle.csv_rows.specs.Reading.{at_start, at_start_in, to_come, AsKnown, Began, Begins, CountsOn, Filled, Gave, GoesOn, IsAtLine, NothingToCome, Refuses, RefusesOn, Takes, Came, Counts, ReadsOnward};
+ghost use Rattle.csv_rows.specs.Reading.{at_start, at_start_in, to_come, AsKnown, Began, Begins, CountsOn, Filled, Gave, GoesOn, IsAtLine, NothingToCome, Refuses, RefusesOn, RowsOfLines, Came, Counts, ReadsOnward};
 ghost use Rattle.csv_rows.specs.CsvText.{is_cut, header_rows, rows_from};
 ghost use Rattle.csv_rows.specs.FieldColumn.{column_of};
 ghost use Rattle.csv_rows.specs.Line.{lines_of, text_line};
@@ -226,7 +226,7 @@ impl CsvReader {
         ensures reads { ReadsOnward R.remaining Counts self.old.given self.new.given reader.old reader.new result }
         ensures within { OnOk result (self.new.given ≤ read_limit) }
         ensures order { self.new.order ≡ self.old.order }
-        ensures taken { OnOk result (Takes self.old self.new rows.old rows.new (R.remaining reader.old.0) (R.remaining reader.new.0)) }
+        ensures taken { OnOk result (RowsOfLines self.old self.new rows.old rows.new (R.remaining reader.old.0) (R.remaining reader.new.0)) }
         ensures between { OnOk result (length rows.new < row_limit → IsAtLine self.new (R.remaining reader.old.0) (R.remaining reader.new.0)) }
     {
         let Some(order) = &self.order else {

@@ -2,7 +2,7 @@
 use Rattle.std.specs.Prelude.{◌≡◌, ℕ, None, OnOk}
 use Rattle.std.proofs.Common.{sym, ap, ◌∙◌, subst, inl, inr}
 use Rattle.std.proofs.lemmas.Result.{err_from_is_err_and}
-use Rattle.csv_rows.specs.Reading.{Reading, Begins, Takes}
+use Rattle.csv_rows.specs.Reading.{Reading, Begins, RowsOfLines}
 use Rattle.csv_rows.proofs.Begins.{Same}
 use Rattle.csv_rows.proofs.Starts as starts
 use Rattle.csv_rows.proofs.Starts.{Started, Read, on_ok, if_err, none_of, some_of, if_none}
@@ -36,7 +36,7 @@ started g c = elim c.if-is_none.branch [
 
 read : (g : Over) (c : goal.After-more_rows g) → OnOk c.more_rows.result (Read c.if-is_none.self c.more_rows.new.self c.args.rows.now c.more_rows.new.rows (g.R.Read.remaining c.if-is_none.reader.0) (g.R.Read.remaining c.more_rows.new.reader.0))
 read g c = on_ok c.more_rows.result
-    (λ (h : Takes c.if-is_none.self c.more_rows.new.self c.args.rows.now c.more_rows.new.rows (g.R.Read.remaining c.if-is_none.reader.0) (g.R.Read.remaining c.more_rows.new.reader.0)). record {
+    (λ (h : RowsOfLines c.if-is_none.self c.more_rows.new.self c.args.rows.now c.more_rows.new.rows (g.R.Read.remaining c.if-is_none.reader.0) (g.R.Read.remaining c.more_rows.new.reader.0)). record {
       order = c.more_rows.ensures.order;
       table = c.more_rows.ensures.table;
       dialect = c.more_rows.ensures.dialect;
