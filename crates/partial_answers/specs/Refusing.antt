@@ -31,7 +31,7 @@ RefusesBy IsNoQuery Alike Small TooMany = Small → ⊥
 RefusesBy IsNoQuery Alike Small SchemaDiffers = ⊥
 RefusesBy IsNoQuery Alike Small (NotApart name) = ⊥
 
--- the same where there is no text
+-- why something is refused where there is no text of a query
 abbrev pub RefusesUnless : Type 0 → Type 0 → PartialAnswerFault → Type 0
 RefusesUnless Alike Small fault = RefusesBy (λ refusal. ⊥) Alike Small fault
 
@@ -48,7 +48,7 @@ AllFit (t ∷ ts) = Fits t × AllFit ts
 abbrev pub RefusesKept : PartialAnswerFault → Kept → Kept → Type 0
 RefusesKept fault a b = RefusesUnless (kept_kind a ≡ kept_kind b) (Fits (plus (tally_in a) (tally_in b))) fault
 
--- the same is kept in both
+-- two lists keep equal kinds of tallies
 abbrev pub AreAlike : List Kept → List Kept → Type 0
 AreAlike xs ys = each kept_kind xs ≡ each kept_kind ys
 

@@ -81,7 +81,7 @@ pub record AreGroups (by : List ℕ) (aggregates : List Aggregate) (rows : List 
   pub held : (key : Cells) (place : ℕ) → place_in index key ≡ Some place → AreHeld (rows_with by rows key) aggregates tallies place
   pub occurs : (key : Cells) → is_some (place_in index key) ≡ list_any (same_cells key) (map (key_of by) rows)
 
--- the same of a query's groups under way
+-- a query's groups under way are those of some rows, and their tallies have the rows' values
 abbrev pub AreGroupsOf : PlanShape → List Cells → Groups → Type 0
 AreGroupsOf plan rows groups = AreGroups plan.grouping plan.aggregates rows groups.places.index.entries groups.tallies.items
 

@@ -16,7 +16,7 @@ abbrev pub side_at : Vector → Side → ℕ → Option ℤ
 side_at v (Column column) n = cell_at v column n
 side_at v (Fixed cell) n = cell
 
--- the same of a vector by its place
+-- a side's cell at a row of a vector that is given by its place
 abbrev pub side_seen : Seen → VectorId → Side → ℕ → Option ℤ
 side_seen seen id side n = side_at (vector_of seen.state id) side n
 

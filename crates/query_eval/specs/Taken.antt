@@ -42,6 +42,6 @@ all_mentions condition plan = where_mentions condition + plan_mentions plan
 abbrev pub AreFinished : List Aggregate → Entries → List (Vec Tally) → List GroupFields → Type 0
 AreFinished aggregates entries tallies finished = (table : Table) (by : List ℕ) (rows : List Cells) → AreFew table rows → AreGroups by aggregates rows entries tallies → finished ≡ finished_keys aggregates by rows (keys_of entries)
 
--- the same of a query with GROUP BY
+-- the groups under way of a query with GROUP BY are finished, whatever rows they are of
 abbrev pub AreAllFinished : PlanShape → Groups → List GroupFields → Type 0
 AreAllFinished plan groups finished = (table : Table) (rows : List Cells) → 1 ≤ length plan.grouping → AreFew table rows → AreGroupsOf plan rows groups → finished ≡ finished_by plan rows

@@ -32,7 +32,7 @@ kind_of (Sum sums) = kinds.Sum
 kind_of (Extreme extreme value) = kinds.Extreme extreme
 kind_of (Distinct seen) = kinds.Distinct
 
--- the same values are among both
+-- two lists have equal values, in any order and however often
 abbrev pub AreAlike : List ℤ → List ℤ → Type 0
 AreAlike keys values = (z : ℤ) → list_any (int_eq z) keys ≡ list_any (int_eq z) values
 

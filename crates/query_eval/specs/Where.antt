@@ -28,7 +28,7 @@ operand_at table v operand n = at_row table.columns (row_at v n) operand
 abbrev pub truth_in : Table → Vector → Formula → ℕ → Truth
 truth_in table v f n = condition_truth (at_row table.columns (row_at v n)) f
 
--- the same of a vector by its place
+-- an operand at a row of a vector that is given by its place
 abbrev pub operand_seen : Seen → VectorId → Operand → ℕ → Field
 operand_seen seen id operand n = operand_at seen.table (vector_of seen.state id) operand n
 

@@ -15,7 +15,7 @@ use std::alloc::{AllocError, Global};
 /// How many values are remembered with the places of their groups.
 const REMEMBERED: usize = 1024;
 
-/// A value in the one grouping column, and the place of its group.
+/// The key that was looked up last, and the place of its group, for GROUP BY one column.
 #[derive(Clone, Copy, Debug)]
 pub struct Recent {
     value: i64,

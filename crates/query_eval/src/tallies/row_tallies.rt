@@ -47,7 +47,7 @@ fn add_value(tallies: &mut Vec<Tally>, place: usize, value: i64) -> Result<(), A
     Ok(())
 }
 
-/// Counts the rows of a mask in the tallies at their places.
+/// Adds 1 to tally `places[n]` for each row n of the mask.
 pub fn count_rows(tallies: &mut Vec<Tally>, places: &[usize; 1024], rows: &Mask)
     ensures size { length tallies.new.items ≡ length tallies.old.items }
     ensures held { CountPlaced rows.now places.now tallies.old.items tallies.new.items }

@@ -103,7 +103,8 @@ impl Sums {
         self.sum.add(sum);
     }
 
-    /// Takes in the values at the rows of a mask, which are short if `short` says so.
+    /// Adds `values[n]` for each row n of the mask. `short` promises that all 1,024 values are within ±2^52, so that their sum can't
+    /// wrap.
     fn add_rows(&mut self, values: &[i64; 1024], short: bool, rows: &Mask)
         requires { short ≡ true → AreShort values.now }
         ensures { (before : List ℤ) → AreTold before self.old → AreTold (before ++ values_at rows.now values.now) self.new }
@@ -264,7 +265,8 @@ impl Tally {
         Ok(())
     }
 
-    /// Takes in the values at the rows of a mask, which are short if `short` says so.
+    /// Adds `values[n]` for each row n of the mask. `short` promises that all 1,024 values are within ±2^52, so that their sum can't
+    /// wrap.
     pub fn add_rows(
         &mut self,
         values: &[i64; 1024],
