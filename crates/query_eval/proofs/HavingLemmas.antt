@@ -36,7 +36,7 @@ module _ (columns : List ColumnShape) (plan : PlanShape) (group : GroupFields) w
   operand_meant (Literal n) = refl
   operand_meant (Function f) = refl
 
-  predicate_meant : (p : Predicate) → placed_truth p (predicate_places columns plan p) group ≡ predicate_truth (seen_operand columns plan group) p
+  pub predicate_meant : (p : Predicate) → placed_truth p (predicate_places columns plan p) group ≡ predicate_truth (seen_operand columns plan group) p
   predicate_meant (Compare left op right) = λ i. field_comparison op (operand_meant left i) (operand_meant right i)
   predicate_meant (Between operand negated low high) = λ i. not_if negated (between (operand_meant operand i) (operand_meant low i) (operand_meant high i))
   predicate_meant (In operand negated literals) = λ i. not_if negated (is_among (operand_meant operand i) literals)

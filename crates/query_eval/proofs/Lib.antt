@@ -41,3 +41,4 @@ pub mod CodeSliceLemmas
 pub mod CodeSumLemmas
 mod CodeLemmas
 mod CodeAmong
+mod NumberLemmas

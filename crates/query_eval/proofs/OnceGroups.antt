@@ -35,7 +35,7 @@ use Rattle.query_eval.proofs.OnceLemmas.{in-once, is_in, named-once}
 abbrev tie : ℕ → Cells → Cells → Ordering
 tie p a b = option_cmp int_cmp (cell a p) (cell b p)
 
-abbrev ordered : List ℕ → Cells → Cells → Ordering
+abbrev pub ordered : List ℕ → Cells → Cells → Ordering
 ordered by a b = key_cmp (key_of by a) (key_of by b)
 
 then_alike : (o x y : Ordering) → (o ≡ Equal → x ≡ y) → ordering_then o x ≡ ordering_then o y
@@ -68,7 +68,7 @@ all_dropped : (a b : Cells) (rest before : List ℕ) → ordered (fold with_plac
 all_dropped a b [] before = ap (λ (l : List ℕ). ordered l a b) (sym (append-nil before))
 all_dropped a b (p ∷ rest) before = all_dropped a b rest (with_place before p) ∙ one_dropped a b p before rest
 
-ordered-once : (by : List ℕ) (a b : Cells) → ordered (places_once by) a b ≡ ordered by a b
+pub ordered-once : (by : List ℕ) (a b : Cells) → ordered (places_once by) a b ≡ ordered by a b
 unfolding places_once
 ordered-once by a b = all_dropped a b by []
 
@@ -77,7 +77,7 @@ at_or_later : (p c : ℕ) (t b : Bool) (row key : Cells) (n : ℕ) → (p == c) 
 at_or_later p c true b row key n is later = ap (cell row) ((Decides-eqb p c).0 is)
 at_or_later p c false b row key n is later = let next : 1 + n ≡ suc n = omega arith in ap (λ k. slice_index_or (cell row p ∷ key) k None) next ∙ later
 
-cell_seen : (by : List ℕ) (row : Cells) (c : ℕ) → slice_index_or (key_of by row) (position_or_len (λ place. place == c) by) None ≡ cond (is_in c by) (cell row c) None
+pub cell_seen : (by : List ℕ) (row : Cells) (c : ℕ) → slice_index_or (key_of by row) (position_or_len (λ place. place == c) by) None ≡ cond (is_in c by) (cell row c) None
 cell_seen [] row c = refl
 cell_seen (p ∷ by) row c = at_or_later p c (p == c) (is_in c by) row (key_of by row) (position_or_len (λ place. place == c) by) refl (cell_seen by row c)
 
@@ -86,13 +86,13 @@ any_tied : (q : Cells) (ks : List Cells) → list_any (same_cells q) ks ≡ list
 any_tied q [] = refl
 any_tied q (k ∷ ks) = λ i. tied_keys q k i || any_tied q ks i
 
-bool_alike : (x y : Bool) → (x ≡ true → y ≡ true) → (y ≡ true → x ≡ true) → x ≡ y
+pub bool_alike : (x y : Bool) → (x ≡ true → y ≡ true) → (y ≡ true → x ≡ true) → x ≡ y
 bool_alike true true f g = refl
 bool_alike true false f g = absurd (false≢true (f refl))
 bool_alike false true f g = absurd (false≢true (g refl))
 bool_alike false false f g = refl
 
-witness : (by : List ℕ) (q : Cells) (xs : List Cells) → list_any (same_cells q) (map (key_of by) xs) ≡ true → (r : Cells) × (q ≡ key_of by r)
+pub witness : (by : List ℕ) (q : Cells) (xs : List Cells) → list_any (same_cells q) (map (key_of by) xs) ≡ true → (r : Cells) × (q ≡ key_of by r)
 witness by q [] h = absurd (false≢true h)
 witness by q (x ∷ xs) h = by_test (witness by q xs) (same_cells q (key_of by x)) refl
   where
@@ -112,7 +112,7 @@ keys_occur by rows q = any_tied q (finite.keys (keys_in by rows)) ∙ occurs by 
 
 -- ---- two lists of columns by which rows compare alike
 module _ (once by : List ℕ) (alike : (a b : Cells) → ordered once a b ≡ ordered by a b) where
-  tied : (a b : Cells) → same_cells (key_of once a) (key_of once b) ≡ same_cells (key_of by a) (key_of by b)
+  pub tied : (a b : Cells) → same_cells (key_of once a) (key_of once b) ≡ same_cells (key_of by a) (key_of by b)
   tied a b = tied_keys (key_of once a) (key_of once b) ∙ ap is_eq (alike a b) ∙ sym (tied_keys (key_of by a) (key_of by b))
 
   pub rows_alike : (rows : List Cells) (r : Cells) → rows_with once rows (key_of once r) ≡ rows_with by rows (key_of by r)
@@ -120,7 +120,7 @@ module _ (once by : List ℕ) (alike : (a b : Cells) → ordered once a b ≡ or
   rows_alike [] r = refl
   rows_alike (row ∷ rows) r = λ i. cond (tied r row i) (row ∷ rows_alike rows r i) (rows_alike rows r i)
 
-  any_alike : (xs : List Cells) (r : Cells) → list_any (same_cells (key_of once r)) (map (key_of once) xs) ≡ list_any (same_cells (key_of by r)) (map (key_of by) xs)
+  pub any_alike : (xs : List Cells) (r : Cells) → list_any (same_cells (key_of once r)) (map (key_of once) xs) ≡ list_any (same_cells (key_of by r)) (map (key_of by) xs)
   any_alike [] r = refl
   any_alike (x ∷ xs) r = λ i. tied r x i || any_alike xs r i
 
@@ -171,11 +171,11 @@ longer (p ∷ rest) before =
     ] in
     omega (arith, one, longer rest (with_place before p))
 
-some_once : (c : ℕ) (by : List ℕ) → 1 ≤ length (places_once (c ∷ by))
+pub some_once : (c : ℕ) (by : List ℕ) → 1 ≤ length (places_once (c ∷ by))
 unfolding places_once
 some_once c by = longer by (c ∷ [])
 
-none_once : places_once [] ≡ []
+pub none_once : places_once [] ≡ []
 unfolding places_once
 none_once = refl
 

@@ -100,7 +100,7 @@ module _ (es : Entries) where
   some_or true t o rest e = refl
   some_or false t o rest e = e
 
-  found_any : (q : Cells) (some : Entries) → is_some (place_in some q) ≡ list_any (same_cells q) (keys_of some)
+  pub found_any : (q : Cells) (some : Entries) → is_some (place_in some q) ≡ list_any (same_cells q) (keys_of some)
   found_any q [] = refl
   found_any q (e ∷ rest) = some_or (same_cells q e.0) e.1 (place_in rest q) _ (found_any q rest)
 

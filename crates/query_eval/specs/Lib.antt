@@ -30,3 +30,4 @@ pub mod Forms
 pub mod HashKey
 pub mod Once
 pub mod FieldPlaces
+pub mod GroupNumbers

@@ -1,8 +1,8 @@
 //! HAVING at 1024 finished groups at a time, as pairs of masks.
 //!
-//! So a condition is gone through once for 1024 groups, and the place of a set function is looked for as often. Each further factor
-//! of an AND is evaluated at the groups at which none before is false, and each further term of an OR at those at which none before
-//! is true.
+//! So a condition is gone through once for 1024 groups, and the place of a set function is looked for as often. Numbers of 64 bits
+//! are put into columns first, and a predicate is evaluated a column at a time. Each further factor of an AND is evaluated at the
+//! groups at which none before is false, and each further term of an OR at those at which none before is true.
 ghost use Rattle.std.specs.Prelude.{◌≡◌, ◌==◌, ◌+◌, ◌*◌, ◌/◌, ◌%◌, ◌<◌, ◌≤◌, ℕ, [], cond, length, slice_index_or, IfOk};
 ghost use Rattle.std.specs.Int.{bit_at};
 ghost use Rattle.table_model.specs.Meaning.{is_kept};
@@ -11,10 +11,13 @@ ghost use Rattle.table_model.specs.Truth.{is_false, is_true};
 ghost use Rattle.transpose_order.specs.Mask.{has, number_of_bits};
 ghost use Rattle.query_eval.specs.FieldPlaces.{group_at, predicate_in, truth_in, word_truth};
 ghost use Rattle.query_eval.specs.Finished.{seen_operand};
+ghost use Rattle.query_eval.specs.GroupNumbers.{HaveNumbers};
 ghost use Rattle.query_eval.specs.Where.{IsPair};
 
 use crate::answers::field_places::PredicatePlaces;
+use crate::answers::group_numbers::GroupNumbers;
 use crate::answers::having::truth_at;
+use crate::answers::number_masks::number_masks;
 use crate::filter::{Pair, is_set};
 use crate::tallies::{FinishedGroup, Plan};
 use std::alloc::{AllocError, Global};
@@ -74,8 +77,8 @@ fn truth_words(
     TruthWords { yes, no }
 }
 
-/// A predicate at the groups of a mask.
-fn predicate_masks(
+/// A predicate at the groups of a mask, group by group.
+fn masks_by_group(
     schema: &Schema,
     plan: &Plan,
     groups: &[FinishedGroup],
@@ -99,21 +102,42 @@ fn predicate_masks(
     }
 }
 
+/// A predicate at the groups of a mask: by columns of numbers if they have its operands, otherwise group by group.
+fn predicate_masks(
+    schema: &Schema,
+    plan: &Plan,
+    groups: &[FinishedGroup],
+    numbers: &GroupNumbers,
+    predicate: &Predicate,
+    mask: &Mask,
+) -> Pair
+    requires { HaveNumbers groups.now numbers.now }
+    ensures { IsPair mask.now (predicate_in schema.now.columns plan.now groups.now predicate.now) result }
+{
+    let places = PredicatePlaces::of(schema, plan, predicate);
+    match number_masks(numbers, predicate, &places, mask) {
+        Some(pair) => pair,
+        None => masks_by_group(schema, plan, groups, predicate, mask),
+    }
+}
+
 /// A condition at the groups of a mask. If there are none, nothing is evaluated.
 #[cycle(judge)]
 fn condition_masks(
     schema: &Schema,
     plan: &Plan,
     groups: &[FinishedGroup],
+    numbers: &GroupNumbers,
     condition: &Condition,
     mask: &Mask,
 ) -> Pair
+    requires { HaveNumbers groups.now numbers.now }
     ensures { IsPair mask.now (truth_in schema.now.columns plan.now groups.now condition.now) result }
 {
     let mut pair = Pair::everywhere(Truth::False, mask);
     for term in &condition.terms {
         let rest = mask.and_not(&pair.yes);
-        let next = term_masks(schema, plan, groups, term, &rest);
+        let next = term_masks(schema, plan, groups, numbers, term, &rest);
         pair = pair.or(&next);
     }
     pair
@@ -125,15 +149,17 @@ fn term_masks(
     schema: &Schema,
     plan: &Plan,
     groups: &[FinishedGroup],
+    numbers: &GroupNumbers,
     term: &Term,
     mask: &Mask,
 ) -> Pair
+    requires { HaveNumbers groups.now numbers.now }
     ensures { IsPair mask.now (truth_in schema.now.columns plan.now groups.now (formula_of_term term.now)) result }
 {
     let mut pair = Pair::everywhere(Truth::True, mask);
     for factor in &term.factors {
         let rest = mask.and_not(&pair.no);
-        let next = factor_masks(schema, plan, groups, factor, &rest);
+        let next = factor_masks(schema, plan, groups, numbers, factor, &rest);
         pair = pair.and(&next);
     }
     pair
@@ -145,15 +171,17 @@ fn factor_masks(
     schema: &Schema,
     plan: &Plan,
     groups: &[FinishedGroup],
+    numbers: &GroupNumbers,
     factor: &Factor,
     mask: &Mask,
 ) -> Pair
+    requires { HaveNumbers groups.now numbers.now }
     ensures { IsPair mask.now (truth_in schema.now.columns plan.now groups.now (formula_of_factor factor.now)) result }
 {
     if mask.next_true(0) == 1024 {
         return Pair::everywhere(Truth::Unknown, mask);
     }
-    let pair = test_masks(schema, plan, groups, &factor.test, mask);
+    let pair = test_masks(schema, plan, groups, numbers, &factor.test, mask);
     if factor.negated { pair.not() } else { pair }
 }
 
@@ -163,12 +191,14 @@ fn test_masks(
     schema: &Schema,
     plan: &Plan,
     groups: &[FinishedGroup],
+    numbers: &GroupNumbers,
     test: &Test,
     mask: &Mask,
 ) -> Pair
+    requires { HaveNumbers groups.now numbers.now }
     ensures { IsPair mask.now (truth_in schema.now.columns plan.now groups.now (formula_of_test test.now)) result }
 {
-    let pair = primary_masks(schema, plan, groups, &test.primary, mask);
+    let pair = primary_masks(schema, plan, groups, numbers, &test.primary, mask);
     match test.is {
         None => pair,
         Some(is) => pair.asked(is, mask),
@@ -181,31 +211,42 @@ fn primary_masks(
     schema: &Schema,
     plan: &Plan,
     groups: &[FinishedGroup],
+    numbers: &GroupNumbers,
     primary: &Primary,
     mask: &Mask,
 ) -> Pair
+    requires { HaveNumbers groups.now numbers.now }
     ensures { IsPair mask.now (truth_in schema.now.columns plan.now groups.now (formula_of_primary primary.now)) result }
 {
     match primary {
-        Primary::Nested(condition) => condition_masks(schema, plan, groups, condition, mask),
-        Primary::Predicate(predicate) => predicate_masks(schema, plan, groups, predicate, mask),
+        Primary::Nested(condition) => condition_masks(
+            schema, plan, groups, numbers, condition, mask,
+        ),
+        Primary::Predicate(predicate) => predicate_masks(
+            schema, plan, groups, numbers, predicate, mask,
+        ),
     }
 }
 
 /// Which of the first 1024 of some groups HAVING keeps: those at which its condition is true, or all if there is no condition.
 fn kept_mask(
+    alloc: Global,
     schema: &Schema,
     plan: &Plan,
     groups: &[FinishedGroup],
     having: &Option<Condition>,
-) -> Mask
-    ensures { (n : ℕ) → n < 1024 → n < length groups.now → has result n ≡ is_kept having.now (seen_operand schema.now.columns plan.now (group_at groups.now n)) }
+) -> Result<Mask, AllocError>
+    ensures { IfOk result (λ mask. (n : ℕ) → n < 1024 → n < length groups.now → has mask n ≡ is_kept having.now (seen_operand schema.now.columns plan.now (group_at groups.now n))) }
 {
     let mut all = Mask::none();
     all.set_range(0, groups.len().min(VECTOR_ROWS), true);
     match having {
-        None => all,
-        Some(condition) => condition_masks(schema, plan, groups, condition, &all).yes,
+        None => Ok(all),
+        Some(condition) => {
+            let numbers = GroupNumbers::of(alloc, plan, groups)?;
+            let pair = condition_masks(schema, plan, groups, &numbers, condition, &all);
+            Ok(pair.yes)
+        }
     }
 }
 
@@ -222,7 +263,8 @@ pub fn kept_groups(
     let mut masks = Vec::new(alloc);
     for block in 0..groups.len() / VECTOR_ROWS + 1 {
         let rest = &groups[VECTOR_ROWS * block..];
-        masks.push(kept_mask(schema, plan, rest, having))?;
+        let mask = kept_mask(alloc, schema, plan, rest, having)?;
+        masks.push(mask)?;
     }
     Ok(masks)
 }

@@ -1,10 +1,13 @@
 //! Answers: the rows taken in, HAVING, and the heading and the rows of an answer.
 
 mod answer_rows;
+mod compared_rows;
 mod field_places;
 mod group_masks;
+mod group_numbers;
 mod having;
 mod heading;
+mod number_masks;
 mod query_answer;
 mod taken_rows;
 

@@ -24,5 +24,6 @@ pub(crate) use kept_rows::has_rows;
 pub use kept_rows::{KeptVector, kept_mask};
 pub use matches::matching;
 pub use pair::Pair;
+pub(crate) use rows::{among_values, value_of};
 pub(crate) use turning_rows::turning_rows;
 pub(crate) use value_rows::{changed_rows, equal_rows};

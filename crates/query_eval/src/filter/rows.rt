@@ -98,7 +98,7 @@ fn among_by_row(nulls: &Mask, values: &[i64; 1024], literals: &[i128], mask: &Ma
 }
 
 /// A literal as a value of 64 bits, or `None` if it isn't one.
-fn value_of(literal: i128) -> Option<i64>
+pub(crate) fn value_of(literal: i128) -> Option<i64>
     ensures value { IfSome result (λ value. value ≡ literal) }
     ensures answers { FitsSigned w64 literal → IsSome result }
 {

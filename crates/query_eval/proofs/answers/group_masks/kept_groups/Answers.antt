@@ -15,8 +15,8 @@ loop-block-preserved c =
     let groups = c.args.groups.now in
     let kept : GroupFields → Bool = λ group. is_kept c.args.having.now (seen_operand c.args.schema.now.columns c.args.plan.now group) in
     let rest : take (length groups - first) (drop first groups) ≡ drop first groups = take_all (length groups - first) (drop first groups) (omega (arith, length-drop first groups)) in
-    let here = subst (λ (gs : List GroupFields). (n : ℕ) → n < 1024 → n < length gs → has c.kept_mask.result n ≡ kept (group_at gs n)) rest c.kept_mask.ensures in
+    let here = subst (λ (gs : List GroupFields). (n : ℕ) → n < 1024 → n < length gs → has c.in_ok-mask.mask n ≡ kept (group_at gs n)) rest c.in_ok-mask.ensures in
     record {
-      size = omega (arith, inv.size, ap length c.in_ok-push.ensures.items, length-append c.loop-block.masks.items (c.kept_mask.result ∷ []));
-      kept = masks_more kept groups c.loop-block.block c.loop-block.masks.items c.push.new.self.items c.kept_mask.result inv.size c.in_ok-push.ensures.items inv.kept here;
+      size = omega (arith, inv.size, ap length c.in_ok-push.ensures.items, length-append c.loop-block.masks.items (c.in_ok-mask.mask ∷ []));
+      kept = masks_more kept groups c.loop-block.block c.loop-block.masks.items c.push.new.self.items c.in_ok-mask.mask inv.size c.in_ok-push.ensures.items inv.kept here;
     }

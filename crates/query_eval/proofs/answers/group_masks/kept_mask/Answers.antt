@@ -12,7 +12,7 @@ returns-in-None c = λ n h l.
     all_within c.set_range.new.self c.none-all.result _ c.min.result c.min.ensures c.set_range.ensures n h l
     ∙ sym (ap (λ (o : Option Formula). is_kept o (seen_operand c.args.schema.now.columns c.args.plan.now (group_at c.args.groups.now n))) c.in-None.is)
 
-pub returns-in-Some : goal.returns-in-Some
-returns-in-Some c = λ n h l.
-    yes_is_kept c.set_range.new.self c.condition_masks.result.yes _ n h c.condition_masks.ensures.yes (all_within c.set_range.new.self c.none-all.result _ c.min.result c.min.ensures c.set_range.ensures n h l)
+pub returns-in_ok-numbers-in-Some : goal.returns-in_ok-numbers-in-Some
+returns-in_ok-numbers-in-Some c = λ n h l.
+    yes_is_kept c.set_range.new.self c.condition_masks-pair.result.yes _ n h c.condition_masks-pair.ensures.yes (all_within c.set_range.new.self c.none-all.result _ c.min.result c.min.ensures c.set_range.ensures n h l)
     ∙ sym (ap (λ (o : Option Formula). is_kept o (seen_operand c.args.schema.now.columns c.args.plan.now (group_at c.args.groups.now n))) c.in-Some.is)

@@ -3,7 +3,7 @@ use Rattle.std.proofs.Common.{◌≡◌, ◌*◌, ◌<◌, ℕ, cond, get_or, le
 use Rattle.table_model.specs.Truth.{is_false, is_true}
 use Rattle.transpose_order.specs.Mask.{number_of_bits}
 use Rattle.query_eval.specs.FieldPlaces.{word_truth}
-use Rattle.query_eval.proofs.answers.group_masks.predicate_masks.Given as goal
+use Rattle.query_eval.proofs.answers.group_masks.masks_by_group.Given as goal
 
 abbrev pub invariant-loop-index : goal.invariant-loop-index
 invariant-loop-index l = record {
