@@ -5,8 +5,8 @@ ghost use Rattle.command_line.specs.Outcome.{EndsWith, fault_of, refused_memory}
 ghost use Rattle.command_line.specs.declared.fault.Fault.TheVariants.{Refused};
 ghost use Rattle.refusal_sentences.specs.declared.command_refusal.CommandRefusal.TheVariants.{Named};
 
-use crate::commands::Verb;
 use crate::requests::Request;
+use crate::verb::Verb;
 use clap::error::ErrorKind;
 use refusal_sentences::CommandRefusal;
 use std::alloc::{AllocError, Global};

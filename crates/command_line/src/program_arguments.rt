@@ -3,8 +3,9 @@ ghost use Rattle.std.specs.Prelude.{◌≡◌, IfErr};
 ghost use Rattle.std.specs.IoError.{error_kind};
 ghost use Rattle.command_line.specs.Outcome.{IsUnread, refused_memory};
 
-use crate::commands::{Verb, commands};
+use crate::commands::commands;
 use crate::fault::Fault;
+use crate::verb::Verb;
 use clap::error;
 use refusal_sentences::Quoted;
 use std::alloc::AllocError;

@@ -1,6 +1,6 @@
 //! The help of the program, with its commands in groups.
 
-use crate::commands::Verb;
+use crate::verb::Verb;
 use std::alloc::{AllocError, Global};
 
 /// What comes before the commands.

@@ -36,13 +36,9 @@ pub(crate) fn dump_command<'a>(
         .arg(file(alloc))
 }
 
-/// The option that asks for the digest of what is held.
-fn digest<'a>(alloc: Global) -> Arg<'a> {
-    flag(
-        alloc,
-        "digest",
-        "Also print the digest of what is held: replicas with one digest hold the same",
-    )
+/// The option that asks for the digest of what is held, or of each batch.
+fn digest<'a>(alloc: Global, help: &'a str) -> Arg<'a> {
+    flag(alloc, "digest", help)
 }
 
 /// How `lanes inspect` is read.
@@ -59,7 +55,10 @@ pub(crate) fn inspect_command<'a>(
         .about("Writes what a file holds and how its columns are coded")
         .after_help(INSPECT_HELP)
         .arg(batches)?
-        .arg(digest(alloc))?
+        .arg(digest(
+            alloc,
+            "Also print the digest of what is held, or with --batches that of each batch",
+        ))?
         .arg(format(
             alloc,
             "The form of the report: text or json (default: text)",
@@ -105,6 +104,9 @@ pub(crate) fn check_command<'a>(
         .about(
             "Says whether a file is in canonical form, and how many batches and ranges of deletions it has",
         )
-        .arg(digest(alloc))?
+        .arg(digest(
+            alloc,
+            "Also print the digest of what is held: replicas with one digest hold the same",
+        ))?
         .arg(file(alloc))
 }

@@ -1,6 +1,6 @@
 //! What a command line can ask for.
 
-use crate::commands::Verb;
+use crate::verb::Verb;
 use answer_formats::{Format, ReportForm};
 use table_model::{BatchName, ColType, RowName};
 
@@ -184,15 +184,15 @@ pub struct Dump<'a> {
     pub columns: &'a str,
 }
 
-/// `lanes inspect [--batches | --digest] [--format FORMAT] FILE`: what a file holds and how it is coded, or a list of its batches; or
-/// what a partial answer or a summary covers.
+/// `lanes inspect [--batches] [--digest] [--format FORMAT] FILE`: what a file holds and how it is coded, or a list of its batches; or what
+/// a partial answer or a summary covers.
 #[derive(Debug, Drop)]
 pub struct Inspect<'a> {
     /// The file's name.
     pub file: &'a str,
     /// Whether the batches are listed instead.
     pub has_batches: bool,
-    /// Whether the digest of what the file holds is written too.
+    /// Whether the digest of what the file holds is written too; of a list of batches, the digest of each.
     pub has_digest: bool,
     /// The form of the report.
     pub form: ReportForm,

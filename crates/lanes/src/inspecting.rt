@@ -8,17 +8,25 @@ use partial_file::read_partial_answer;
 use program_failures::{Failure, buffered, flushed, told};
 use program_folders::{Opened, open_folder};
 use program_inputs::{Home, Host, LazyFile, Peeked, Progress, Told};
-use refusal_sentences::CommandRefusal;
-use replica_reports::{OpenFile, list_batches};
+use refusal_sentences::{CommandRefusal, Knowledge};
+use replica_reports::{OpenFile, list_batches, list_batches_with_digests};
 use std::fs::Files;
 use std::io::Read;
-use table_model::Counted;
+use table_model::{Counted, Refusal};
 
 /// What a partial answer begins with.
 const PARTIAL: &[u8] = b"FLPT";
 
 /// What a summary begins with.
 const SUMMARY: &[u8] = b"FLSM";
+
+/// What is said of a partial answer if its digest is asked for.
+const PARTIAL_WITHOUT_DIGEST: &str =
+    "this is a partial answer, which has no digest: lanes inspect alone says what it covers";
+
+/// What is said of a summary if its digest is asked for.
+const SUMMARY_WITHOUT_DIGEST: &str =
+    "this is a summary, which has no digest: lanes inspect alone says which batches it names";
 
 /// Writes what a file holds and how its columns are coded, or a list of its batches; or what a partial answer or a summary covers.
 pub fn inspect<R: Host>(
@@ -41,8 +49,11 @@ fn inspect_input<R: Host>(
 ) -> Result<(), Failure> {
     let form = asked.form;
     let peeked = Peeked::new(Told::new(progress, Source::File(file), LazyFile::new(rt, file)));
+    if asked.has_digest {
+        refuse_digest(rt, file, peeked.front())?;
+    }
     if asked.has_batches {
-        list(rt, &open(rt, file, peeked)?, form)
+        list(rt, &open(rt, file, peeked)?, asked)
     } else if asked.has_digest {
         let held = open(rt, file, peeked)?;
         report_with(rt, &held, form, digest_of(rt, form, &held)?.as_str())
@@ -55,6 +66,19 @@ fn inspect_input<R: Host>(
     }
 }
 
+/// Refuses a digest of what begins with these bytes, if it is a partial answer or a summary.
+fn refuse_digest<R: AllocGlobal>(rt: &R, file: &str, front: &[u8]) -> Result<(), Failure> {
+    let words = if front.starts_with(PARTIAL) {
+        PARTIAL_WITHOUT_DIGEST
+    } else if front.starts_with(SUMMARY) {
+        SUMMARY_WITHOUT_DIGEST
+    } else {
+        return Ok(());
+    };
+    let refusal = CommandRefusal::from(Refusal::BadMagic);
+    Err(Failure::said_of(rt.alloc(), refusal, file, Knowledge::Advice(words)))
+}
+
 /// Writes what a folder holds, or a list of its batches.
 fn inspect_folder<R: Host>(
     rt: &R,
@@ -62,12 +86,11 @@ fn inspect_folder<R: Host>(
     folder: &str,
     asked: &Inspect<'_>,
 ) -> Result<(), Failure> {
-    let form = asked.form;
     if !asked.has_batches {
-        return folder_reports::inspect(rt, progress, folder, asked.has_digest, form);
+        return folder_reports::inspect(rt, progress, folder, asked.has_digest, asked.form);
     }
     let opened: Opened<OpenFile> = open_folder(rt, progress, folder)?;
-    list(rt, &opened.held, form)
+    list(rt, &opened.held, asked)
 }
 
 /// What a file holds whose first bytes were looked at.
@@ -86,10 +109,18 @@ fn open<R: Files + AllocGlobal, D: Read + Drop>(
     }
 }
 
-/// Writes a list of the batches of a file or a folder.
-fn list<R: Print + AllocGlobal>(rt: &R, held: &OpenFile, form: ReportForm) -> Result<(), Failure> {
+/// Writes a list of the batches of a file or a folder, with their digests if that is asked for.
+fn list<R: Print + AllocGlobal>(
+    rt: &R,
+    held: &OpenFile,
+    asked: &Inspect<'_>,
+) -> Result<(), Failure> {
     let mut writer = buffered(rt)?;
-    let outcome = list_batches(rt.alloc(), held, form, &mut writer);
+    let outcome = if asked.has_digest {
+        list_batches_with_digests(rt.alloc(), held, asked.form, &mut writer)
+    } else {
+        list_batches(rt.alloc(), held, asked.form, &mut writer)
+    };
     told(rt, flushed(writer, outcome))
 }
 

@@ -22,8 +22,8 @@ lines_next s columns i column old new line whole is told pushed before =
 pub lines_end : (s : StoreForm) (columns : List ColumnShape) (i : ℕ) (lines whole : List (List (List ℕ))) → length columns ≤ i → lines ++ column_lines s i (drop i columns) ≡ whole → lines ≡ whole
 lines_end s columns i lines whole end told = sym (append-nil lines) ∙ ap (λ (left : List ColumnShape). lines ++ column_lines s i left) (sym (drop_all i columns end)) ∙ told
 
--- there is a column at each place below their number
-pub has_one : (columns : List ColumnShape) (i : ℕ) → i < length columns → (column : ColumnShape) × (slice_get columns i ≡ Some column)
+-- there is one at each place below their number
+pub has_one : {X : Type 0} (xs : List X) (i : ℕ) → i < length xs → (x : X) × (slice_get xs i ≡ Some x)
 has_one [] i below = absurd (omega (arith, below))
-has_one (column ∷ columns) zero below = (column, refl)
-has_one (column ∷ columns) (suc i) below = has_one columns i (omega (arith, below))
+has_one (x ∷ xs) zero below = (x, refl)
+has_one (x ∷ xs) (suc i) below = has_one xs i (omega (arith, below))

@@ -52,20 +52,28 @@ count_is s deleted i name rows n live is many same told =
     ∙ live_counted s.deleted name rows in
     counted_at s i (name, rows) (record { name = name; rows = n; live = live }) is (λ j. record { name = name; rows = many j; live = alive j })
 
+same_counts : (a b : BatchCounts) → Some a ≡ Some b → a ≡ b
+same_counts a b is = cc
+
+-- the counts that are found there are the batch's
+pub counts_are : (s : State) (i : ℕ) (e : Entry) (c : BatchCounts) → slice_get (map.entries s.batches) i ≡ Some e → slice_get (batch_counts s) i ≡ Some c → c ≡ counted s.deleted e
+counts_are s i e c is told =
+    same_counts c (counted s.deleted e) (sym told ∙ slice_get-map (counted s.deleted) (map.entries s.batches) i ∙ ap (option_map (counted s.deleted)) is)
+
 -- ---- the list
 
 -- one line more
-pub lines_next : (form : ReportForm) (cs : List BatchCounts) (i : ℕ) (c : BatchCounts) (out line whole : List ℕ)
-    → slice_get cs i ≡ Some c → line ≡ batch_line form c → out ++ flat_map (batch_line form) (drop i cs) ≡ whole → (out ++ line) ++ flat_map (batch_line form) (drop (i + 1) cs) ≡ whole
-lines_next form cs i c out line whole is told before =
-    let rest : List ℕ = flat_map (batch_line form) (drop (i + 1) cs) in
+pub lines_next : {X : Type 0} (line_of : X → List ℕ) (xs : List X) (i : ℕ) (x : X) (out line whole : List ℕ)
+    → slice_get xs i ≡ Some x → line ≡ line_of x → out ++ flat_map line_of (drop i xs) ≡ whole → (out ++ line) ++ flat_map line_of (drop (i + 1) xs) ≡ whole
+lines_next line_of xs i x out line whole is told before =
+    let rest : List ℕ = flat_map line_of (drop (i + 1) xs) in
     append_assoc out line rest
-    ∙ ap (λ (t : List ℕ). out ++ t) (ap (λ (t : List ℕ). t ++ rest) told ∙ sym (ap (flat_map (batch_line form)) (drop_at cs i c is)))
+    ∙ ap (λ (t : List ℕ). out ++ t) (ap (λ (t : List ℕ). t ++ rest) told ∙ sym (ap (flat_map line_of) (drop_at xs i x is)))
     ∙ before
 
 -- and none is left at the end
-pub lines_end : (form : ReportForm) (cs : List BatchCounts) (i : ℕ) (out whole : List ℕ) → length cs ≤ i → out ++ flat_map (batch_line form) (drop i cs) ≡ whole → out ≡ whole
-lines_end form cs i out whole end told = sym (append-nil out) ∙ ap (λ (left : List BatchCounts). out ++ flat_map (batch_line form) left) (sym (drop_all i cs end)) ∙ told
+pub lines_end : {X : Type 0} (line_of : X → List ℕ) (xs : List X) (i : ℕ) (out whole : List ℕ) → length xs ≤ i → out ++ flat_map line_of (drop i xs) ≡ whole → out ≡ whole
+lines_end {X = X} line_of xs i out whole end told = sym (append-nil out) ∙ ap (λ (left : List X). out ++ flat_map line_of left) (sym (drop_all i xs end)) ∙ told
 
 -- there are as many as there are batches
 pub length-batch_counts : (s : State) → length (batch_counts s) ≡ map.len s.batches

@@ -1,5 +1,6 @@
 pub mod AskedTexts
 pub mod BatchCounting
+pub mod BatchesAlone
 pub mod CountedBatches
 pub mod DumpLines
 pub mod DecodedRooms

@@ -38,19 +38,19 @@ pub record AreCountsOf (s : State) (counts : StoreCounts) : Type 0 where
   pub live : counts.live ≡ length (live_rows s)
   pub ranges : counts.ranges ≡ length (ranges_of s.deleted)
 
--- what a list of batches begins with
-abbrev pub list_heading : ReportForm → List ℕ
-list_heading Text = codes "BATCH,ROWS,LIVE\n"
-list_heading Json = []
+-- what a list of batches begins with: as text these headings
+abbrev pub list_heading : ReportForm → List ℕ → List ℕ
+list_heading Text headings = headings
+list_heading Json headings = []
 
--- the line of a batch
-abbrev pub batch_line : ReportForm → BatchCounts → List ℕ
-batch_line Text c = name_text c.name ++ (codes "," ++ (decimal c.rows ++ (codes "," ++ (decimal c.live ++ codes "\n"))))
-batch_line Json c = codes "{\"batch\":\"" ++ (name_text c.name ++ (codes "\",\"rows\":" ++ (decimal c.rows ++ (codes ",\"live\":" ++ (decimal c.live ++ codes "}\n")))))
+-- the line of a batch, with more behind its counts
+abbrev pub batch_line : ReportForm → BatchCounts → List ℕ → List ℕ
+batch_line Text c more = name_text c.name ++ (codes "," ++ (decimal c.rows ++ (codes "," ++ (decimal c.live ++ (more ++ codes "\n")))))
+batch_line Json c more = codes "{\"batch\":\"" ++ (name_text c.name ++ (codes "\",\"rows\":" ++ (decimal c.rows ++ (codes ",\"live\":" ++ (decimal c.live ++ (more ++ codes "}\n"))))))
 
 -- the list of the batches of a state, a line each, in ascending order of name
 abbrev pub batch_list : ReportForm → State → List ℕ
-batch_list form s = list_heading form ++ flat_map (batch_line form) (batch_counts s)
+batch_list form s = list_heading form (codes "BATCH,ROWS,LIVE\n") ++ flat_map (λ c. batch_line form c []) (batch_counts s)
 
 -- what a report begins with: the name of the table
 abbrev pub table_part : ReportForm → List ℕ → List ℕ

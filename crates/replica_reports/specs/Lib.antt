@@ -1,4 +1,5 @@
 pub mod Asking
+pub mod BatchDigests
 pub mod ColumnFigures
 pub mod ColumnTexts
 pub mod Counts

@@ -1,0 +1,7 @@
+-- The digest of the store that has the batch alone.
+use Rattle.std.proofs.Common.{◌∙◌, ap}
+use Rattle.replica_reports.specs.Digests.{held_digest}
+use Rattle.replica_reports.proofs.batch_digest.batch_digest.Goals as goal
+
+pub returns-clause-digest : goal.returns-clause-digest
+returns-clause-digest c = ?
