@@ -23,6 +23,11 @@ def file_of(table, *batches, ranges=()):
     return head + b"".join(batches) + len(ranges).to_bytes(8, "little") + deletions
 
 
+def digest(file):
+    """The digest of what a file holds."""
+    return hashlib.sha512(file).hexdigest()[:32]
+
+
 # The canonical file of T(A SMALLINT) with the batch 1.1 of one row, 7: 42 bytes; and files like it.
 ONE_ROW = file_of(b"T", batch(1, 1, 7))
 OTHER_ROW = file_of(b"T", batch(1, 1, 8))
@@ -158,9 +163,13 @@ CASES = [
     Case("the name - is a file's name for check", ["check", "-"], 0, b"ok batches=1 ranges=0\n", files={"-": ONE_ROW}),
     Case("a report of a check that can't be written is a failed write", ["check", "t"], 1, err=b"refused WriteFault\nlanes check t: standard output: no space is left on the device\n", files={"t": ONE_ROW}, output_to="full"),
     Case("check wants a file", ["check"], 2, err=[b"FILE"]),
-    Case("a list of batches has no digest", ["inspect", "--batches", "--digest", "t"], 2, err=[b"--digest does not go with --batches"], files={"t": ONE_ROW}),
-    Case("the digest in JSON is a text", ["inspect", "--digest", "--format", "json", "t"], 0, [b'{"table":"T","digest":"' + hashlib.sha512(ONE_ROW).hexdigest()[:32].encode() + b'","batches":1,'], files={"t": ONE_ROW}),
-    Case("what has no canonical file has no digest", ["inspect", "--digest", "s"], 1, err=[b"refused BadMagic"], files={"s": b"FLSM\1\0"}),
+    Case("the digest of each batch is that of the file that has it alone, whatever is deleted", ["inspect", "--batches", "--digest", "t"], 0, f"BATCH,ROWS,LIVE,DIGEST\n1.1,1,1,{digest(ONE_ROW)}\n2.1,1,0,{digest(SECOND_BATCH)}\n3.1,1,1,{digest(THIRD_BATCH)}\n".encode(), files={"t": DELETED}),
+    Case("in JSON each is a text behind the counts", ["inspect", "--batches", "--digest", "--format", "json", "t"], 0, f'{{"batch":"1.1","rows":1,"live":1,"digest":"{digest(ONE_ROW)}"}}\n{{"batch":"2.1","rows":1,"live":1,"digest":"{digest(SECOND_BATCH)}"}}\n'.encode(), files={"t": BOTH}),
+    Case("other rows under a name have another digest", ["inspect", "--digest", "--batches", "t"], 0, f"BATCH,ROWS,LIVE,DIGEST\n1.1,1,1,{digest(OTHER_ROW)}\n".encode(), files={"t": OTHER_ROW}),
+    Case("an empty file has no batch with a digest", ["inspect", "--batches", "--digest", "t"], 0, b"BATCH,ROWS,LIVE,DIGEST\n", files={"t": file_of(b"T")}),
+    Case("digests that can't be written are a failed write", ["inspect", "--batches", "--digest", "t"], 1, err=b"refused WriteFault\nlanes inspect t: standard output: no space is left on the device\n", files={"t": BOTH}, output_to="full"),
+    Case("the digest in JSON is a text", ["inspect", "--digest", "--format", "json", "t"], 0, [b'{"table":"T","digest":"' + digest(ONE_ROW).encode() + b'","batches":1,'], files={"t": ONE_ROW}),
+    Case("a summary has no digest", ["inspect", "--digest", "s"], 1, err=b"refused BadMagic\ns: this is a summary, which has no digest: lanes inspect alone says which batches it names\n", files={"s": b"FLSM\1\0"}),
     Case("one file merged is the same file", ["merge", "out", "t"], 0, b"ok\n", files={"t": ONE_ROW}, writes={"out": ONE_ROW}),
     Case("a file merged with itself is the same file", ["merge", "out", "t", "t"], 0, b"ok\n", files={"t": ONE_ROW}, writes={"out": ONE_ROW}),
     Case("the file that is written may be one that is merged", ["merge", "t", "t", "u"], 0, b"ok\n", files={"t": ONE_ROW, "u": SECOND_BATCH}, writes={"t": BOTH, "u": SECOND_BATCH}),

@@ -1,9 +1,7 @@
 """Each command with each of its options before, between and after its other words: it means the same in each place. And words that
 begin with a hyphen and are no options."""
 
-import hashlib
-
-from cases import BOTH, COMMANDS, NO_PAIR, ONE_PAIR, ONE_ROW, SECOND_BATCH, Case, batch, file_of
+from cases import BOTH, COMMANDS, NO_PAIR, ONE_PAIR, ONE_ROW, SECOND_BATCH, Case, batch, digest, file_of
 from coverage import summary
 from partial_answers import TWO
 
@@ -12,11 +10,6 @@ NAMED = ["--batch", "2.1"]
 ADDED = b"ok batches=1 new=1 rows=1 first=2.1\n"
 REPORT = b'{"table":"T","batches":0,"rows":0,"live":0,"ranges":0,"bytes":25,'
 SUMMARY = summary((1, 1), (2, 1))
-
-
-def digest(file):
-    """The digest of what a file holds."""
-    return hashlib.sha512(file).hexdigest()[:32]
 
 
 def line(command, words, option, out, status=0, err=b"", files=None, writes=None, first=()):
@@ -50,6 +43,7 @@ LINES = [
     line("dump", ["t"], ["--where", "-1 > A"], b"A\n", files={"t": BOTH}),
     line("dump", ["t"], ["--columns", "a,A"], b"A,A\n7,7\n7,7\n", files={"t": BOTH}),
     line("inspect", ["t"], ["--batches"], b"BATCH,ROWS,LIVE\n1.1,1,1\n2.1,1,1\n", files={"t": BOTH}),
+    line("inspect", ["t"], ["--batches", "--digest"], f"BATCH,ROWS,LIVE,DIGEST\n1.1,1,1,{digest(ONE_ROW)}\n2.1,1,1,{digest(SECOND_BATCH)}\n".encode(), files={"t": BOTH}),
     line("inspect", ["t"], ["--format", "json"], [REPORT], files={"t": EMPTY}),
     line("inspect", ["t"], ["--digest"], [f"table T\ndigest {digest(EMPTY)}\nbatches 0\n".encode()], files={"t": EMPTY}),
     line("check", ["t"], ["--digest"], f"ok batches=2 ranges=0 digest={digest(BOTH)}\n".encode(), files={"t": BOTH}),

@@ -69,6 +69,10 @@ COVERAGE_CASES = [
     looks_like("a text is said to be one", b"A\n7\n", b"this is a text file, not a lanes file: import CSV with lanes import, run a script with lanes run"),
     looks_like("so is what gzip packed", b"\x1f\x8b\x08\x00\x00", b"this is packed by gzip: unpack it with gzip -dc"),
     looks_like("of other bytes it is said that they are no format of this program", bytes(range(128, 160)), b"the first four bytes are not those of this format"),
+    *(
+        Case(f"a partial answer has no digest: {' '.join(options)}", ["inspect", *options, "p"], 1, err=b"refused BadMagic\np: this is a partial answer, which has no digest: lanes inspect alone says what it covers\n", files={"p": TWO})
+        for options in (["--digest"], ["--batches", "--digest"])
+    ),
     Case("a partial answer has no list of batches", ["inspect", "--batches", "p"], 1, err=[b"refused BadMagic\np: ", b"this is a partial answer: lanes combine, lanes finish and lanes inspect read it\n"], files={"p": TWO}),
     Case("three bytes are too few", ["inspect", "p"], 1, err=b"refused Truncated 3\np, byte 3: the bytes end too early\n", files={"p": b"FLP"}),
     expects("an answer comes if all batches of a summary were counted", ["--expect", "s", "p"], {"p": TWO, "s": summary((1, 1), (2, 1))}, out=ANSWER),

@@ -8,7 +8,7 @@ from files import BITS, Schema, State, file_bytes
 from answers import names_where, table_of
 from query_text import Fault, read_condition, read_query
 from scripts import NAMES, Maker
-from texts import MARK, batches_of, dumped, in_form, inspected, inspected_as_json, read_rows
+from texts import MARK, batches_as_json, batches_listed, dumped, in_form, inspected, inspected_as_json, read_rows
 
 STRAY = ["+5", "1.0", "1e3", " 5", "5 ", "null", '""', '"5', '5"', "--1", "-", "9" * 31, '"1"2', "\\n", "x", "7\t", "\u00e9", '"NULL', "\\N\\N", "0x1"]
 # Words for a null: with quotes of their own, of hyphens, of digits that are too many, and nothing at all.
@@ -196,12 +196,14 @@ class Site(Maker):
 
     # ---- what is read out
     def read_out(self):
-        has_names = self.pick.random() < 0.5
+        has_names, has_digests = self.pick.random() < 0.5, self.pick.random() < 0.5
+        listed = ["inspect", "--batches", *["--digest"] * has_digests]
         return (
             self.compared(["dump", *["--names"] * has_names, "t"], dumped(self.schema, self.state, has_names))
             or self.compared(["inspect", "t"], inspected(self.schema, self.state))
             or self.compared(["inspect", "--format", "json", "t"], inspected_as_json(self.schema, self.state))
-            or self.compared(["inspect", "--batches", "t"], batches_of(self.state))
+            or self.compared([*listed, "t"], batches_listed(self.schema, self.state, has_digests))
+            or self.compared([*listed, "--format", "json", "t"], batches_as_json(self.schema, self.state, has_digests))
         )
 
     def dump_some(self):

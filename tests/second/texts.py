@@ -1,10 +1,11 @@
 """Comma-separated values, answers in each form and what `inspect` writes: written from docs/COMMANDS.md alone."""
 
+import hashlib
 import json
 import re
 
 from answers import spelled
-from files import BITS, ROWS, file_bytes
+from files import BITS, ROWS, State, file_bytes
 from query_text import Fault
 from vectors import canonical
 
@@ -159,10 +160,25 @@ def inspected_as_json(schema, state):
     return f'{{"table":"{schema.table}"{head},"columns":[{",".join(columns)}]}}\n'
 
 
-def batches_of(state):
-    """What `inspect --batches` writes of a file."""
-    lines = ["BATCH,ROWS,LIVE"]
+def digest_of(schema, name, rows):
+    """The digest of a batch: that of the file that has it alone, with all its rows and no deletions."""
+    return hashlib.sha512(file_bytes(schema, State({name: rows}))).hexdigest()[:32]
+
+
+def batches_of(schema, state, has_digests):
+    """For each batch the cells of its line in what `inspect --batches` writes."""
     for (origin, number), rows in sorted(state.batches.items()):
         live = sum((origin, number, at) not in state.deleted for at in range(len(rows)))
-        lines.append(f"{origin}.{number},{len(rows)},{live}")
-    return "".join(f"{line}\n" for line in lines)
+        yield f"{origin}.{number}", len(rows), live, *[digest_of(schema, (origin, number), rows)] * has_digests
+
+
+def batches_listed(schema, state, has_digests):
+    """What `inspect --batches` writes of a file."""
+    heading = ["BATCH", "ROWS", "LIVE", *["DIGEST"] * has_digests]
+    return "".join(",".join(map(str, line)) + "\n" for line in [heading, *batches_of(schema, state, has_digests)])
+
+
+def batches_as_json(schema, state, has_digests):
+    """What `inspect --batches --format json` writes of a file."""
+    keys = ("batch", "rows", "live", "digest")
+    return "".join(json.dumps(dict(zip(keys, line)), separators=(",", ":")) + "\n" for line in batches_of(schema, state, has_digests))

@@ -186,6 +186,25 @@ def a_snapshot_is_put_back_and_loads_begin_first(room):
     assert 77 in room.held("paris") and 1004 in room.held("tokyo")
 
 
+def a_name_is_of_two_loads_that_are_deleted(room):
+    """Digests tell other rows under one name whatever is deleted, and nothing else: no deletion, no load that is here alone, no answer that was cut."""
+    delete = ["lanes", "delete-rows", "--quiet", str(room.path("paris", "visits")), "1.4", "0", "0"]
+    snapshot(room)
+    room.load("paris", 4)
+    room.exchange()
+    room.run("paris", delete)
+    room.load("paris", 5)
+    room.run("paris", "compare tokyo")
+    put_back(room)
+    room.load("paris", 4, hits=77)
+    room.run("paris", delete)
+    room.ssh("half")
+    room.run("paris", "compare tokyo", status=75)
+    room.ssh("")
+    room.run("paris", "compare tokyo", status="fails")
+    room.sees("paris", "batch 1.4 has other rows here than at tokyo: two loads have one name")
+
+
 def set_back_comes_first(room):
     """The load is refused instead of taken under a name that tokyo has."""
     set_back(room, lambda: room.run("paris", "set-back"))
