@@ -99,8 +99,8 @@ fn list_with_digests(alloc: Global, store: &Store, form: ReportForm) -> Result<V
     ensures refused { IfErr result (λ e. e ≡ Memory) }
 {
     let mut out = empty_list(alloc, form, HEADINGS_WITH_DIGESTS)?;
-    for index in 0..store.batches() {
-        let line = digest_line(alloc, store, form, index)?;
+    for place in 0..store.batches() {
+        let line = digest_line(alloc, store, form, place)?;
         out.extend_from_slice(line.as_bytes())?;
     }
     Ok(out)
@@ -145,6 +145,6 @@ pub fn list_batches_with_digests<W: Write>(
     ensures kept { OnOk result (writer.new.1 ≡ writer.old.1) }
     ensures fault { IfErr result (λ e. CountsWrites e writer.old.1 writer.new.1) }
 {
-    let text = list_with_digests(alloc, file.store(), form)?;
-    writer.write_whole(text.as_slice())
+    let list = list_with_digests(alloc, file.store(), form)?;
+    writer.write_whole(list.as_slice())
 }

@@ -79,7 +79,7 @@ fn digest_ending(alloc: Global, digest: &str) -> Result<Vec<u8>, AllocError>
     Ok(ending)
 }
 
-/// Writes the same with the digest of what the file holds: `ok batches=B ranges=R digest=HEX` and a line feed.
+/// Writes the line of a check with the digest of what the file holds: `ok batches=B ranges=R digest=HEX` and a line feed.
 ///
 /// Refused are `Memory`, before anything is written, and `WriteFault`, after a front.
 pub fn check_with_digest<W: Write>(

@@ -52,7 +52,7 @@ impl OpenFile {
         Ok(OpenFile::from_store(store))
     }
 
-    /// The same of a store whose segments are canonical. It takes no memory.
+    /// What a file holds, as a store whose segments are canonical. Queries find groups by the fixed key. It takes no memory.
     pub fn from_store(store: Store) -> OpenFile
         requires { AreCanonicalOf store.replica.schema store.replica.state.batches store.segments }
         ensures { result ≡ store }
@@ -63,7 +63,7 @@ impl OpenFile {
         }
     }
 
-    /// The same file, whose queries find groups by hashes of a key.
+    /// This open file with another key of the hashes by which its queries find groups. No answer depends on the key.
     pub fn with_hash_key(self, hash_key: HashKey) -> OpenFile
         ensures { result ≡ self }
     {

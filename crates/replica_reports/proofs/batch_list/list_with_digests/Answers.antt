@@ -8,17 +8,17 @@ use Rattle.replica_reports.proofs.ColumnLines.{has_one}
 use Rattle.replica_reports.proofs.CountedBatches.{lines_next, lines_end}
 use Rattle.replica_reports.proofs.batch_list.list_with_digests.Goals as goal
 
-pub loop-index-preserved : goal.loop-index-preserved
-loop-index-preserved c =
+pub loop-place-preserved : goal.loop-place-preserved
+loop-place-preserved c =
     let r = c.args.store.now.replica in
-    let index = c.loop-index.index in
-    let one = has_one (entries_of r) index (omega (arith, map.len-entries r.state.batches, c.batches-index-end.ensures.value, c.loop-index-test.true)) in
+    let index = c.loop-place.place in
+    let one = has_one (entries_of r) index (omega (arith, map.len-entries r.state.batches, c.batches-place-end.ensures.value, c.loop-place-test.true)) in
     let line : c.as_bytes.result.now ≡ digest_line c.args.form r one.0 = c.as_bytes.ensures.value ∙ c.in_ok-line.ensures.line one.0 one.1 in
-    let next = lines_next (digest_line c.args.form r) (entries_of r) index one.0 c.loop-index.out.items c.as_bytes.result.now (digest_list c.args.form r) one.1 line c.loop-index.invariant in
+    let next = lines_next (digest_line c.args.form r) (entries_of r) index one.0 c.loop-place.out.items c.as_bytes.result.now (digest_list c.args.form r) one.1 line c.loop-place.invariant in
     ap (λ (out : List ℕ). out ++ flat_map (digest_line c.args.form r) (drop (index + 1) (entries_of r))) c.in_ok-extend_from_slice.ensures.items ∙ next
 
 pub returns-clause-list : goal.returns-clause-list
 returns-clause-list c =
     let r = c.args.store.now.replica in
-    let end : length (entries_of r) ≤ c.loop-index.index = omega (arith, map.len-entries r.state.batches, c.batches-index-end.ensures.value, c.loop-index-test.false) in
-    lines_end (digest_line c.args.form r) (entries_of r) c.loop-index.index c.loop-index.out.items (digest_list c.args.form r) end c.loop-index.invariant
+    let end : length (entries_of r) ≤ c.loop-place.place = omega (arith, map.len-entries r.state.batches, c.batches-place-end.ensures.value, c.loop-place-test.false) in
+    lines_end (digest_line c.args.form r) (entries_of r) c.loop-place.place c.loop-place.out.items (digest_list c.args.form r) end c.loop-place.invariant
