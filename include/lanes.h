@@ -491,6 +491,14 @@ uint8_t lanes_file(lanes_table *table, uint8_t *out, size_t room, size_t *length
  * Refused: LANES_NOT_OPEN when the handle is closed. */
 uint8_t lanes_digest(lanes_table *table, uint8_t *out, size_t room, size_t *length, lanes_place *place);
 
+/* Gives what the program's command `inspect --batches --digest` writes of the file of a handle's table: of each batch its name, its rows,
+ * its live rows and its digest, which is that of the table that has this batch alone, with all its rows and no deletions. So two replicas
+ * that hold one name with other rows have two digests of it, whatever is deleted. The format is LANES_TEXT or LANES_JSON; another number
+ * is taken for LANES_TEXT.
+ *
+ * Refused: LANES_NOT_OPEN when the handle is closed. */
+uint8_t lanes_batch_digests(lanes_table *table, uint8_t format, uint8_t *out, size_t room, size_t *length, lanes_place *place);
+
 /* Spreads the table of a handle over several files, its shares: as many as `ends` has room for. Each batch goes to one share, in runs of
  * names, with all deletions that name it. Deletions that name no batch of the table go to the first share. No share has more bytes than
  * an equal share and the largest batch, and none is without a batch when the table has as many batches as there are shares. The handle

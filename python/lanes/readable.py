@@ -19,6 +19,8 @@ if TYPE_CHECKING:
 
 #: How much room a message is given beside what it is made of.
 _ROOM = 65_536
+#: How many bytes the line of a batch with its digest has at most: two numbers of 10 digits, two of 5, and 32 digits, with what is between.
+_LINE = 80
 
 
 class Readable:
@@ -60,6 +62,21 @@ class Readable:
             Refused: the first fault of the file.
         """
         return self._table()._asked().digest().decode()
+
+    def batch_digests(self) -> dict[str, str]:
+        """The digest of each batch, by its name: that of the table that has this batch alone, with all its rows and no deletions. So two
+        replicas that hold one name with other rows have two digests of it, whatever is deleted. `lanes inspect --batches --digest` prints
+        them.
+
+            theirs = other.batch_digests()
+            print([name for name, digest in table.batch_digests().items() if theirs.get(name, digest) != digest])
+
+        Raises:
+            Refused: the first fault of the file.
+        """
+        opened = self._table()._asked()
+        lines = opened.batch_digests(_ROOM + _LINE * opened.batches()).decode().splitlines()
+        return {line.split(",")[0]: line.split(",")[3] for line in lines[1:]}
 
     def inspect(self) -> dict[str, Any]:
         """What is in the table, under the keys of `lanes inspect --format json`, without those of stored rows and codings: `table`,

@@ -63,6 +63,14 @@ class Descriptions(unittest.TestCase):
             folder.delete("SITE = 3")
             self.assertEqual(folder.digest(), table.digest())
 
+    def test_the_digests_of_batches_are_those_of_tables_that_have_them_alone(self) -> None:
+        one = Table.create("T", {"A": "BIGINT"}).import_rows([(1,), (2,)], batch="1.1")
+        other = Table.create("T", {"A": "BIGINT"}).import_rows([(3,)], batch="1.1").import_rows([(4,)], batch="2.7")
+        self.assertEqual(one.delete_rows("1.1", 0).batch_digests(), {"1.1": one.digest()})
+        self.assertEqual(list(other.batch_digests()), ["1.1", "2.7"])
+        self.assertNotEqual(other.batch_digests()["1.1"], one.digest())
+        self.assertEqual(Table.create("T", {"A": "BIGINT"}).batch_digests(), {})
+
     def test_equal_tables_have_equal_hashes(self) -> None:
         other = visits().delete("SITE = 3")
         self.assertEqual(len({visits(), visits(), other}), 2)

@@ -93,6 +93,8 @@ static void try_closed(bytes file) {
     expect(seen.number == LANES_NOT_OPEN && seen.length == 0, "the report of a closed handle");
     seen.number = lanes_digest(&table, seen.out, ROOM, &seen.length, &seen.place);
     expect(seen.number == LANES_NOT_OPEN && seen.length == 0, "the digest of a closed handle");
+    seen.number = lanes_batch_digests(&table, LANES_TEXT, seen.out, ROOM, &seen.length, &seen.place);
+    expect(seen.number == LANES_NOT_OPEN && seen.length == 0, "the digests of batches of a closed handle");
 }
 
 /* Each change of a handle beside the call without one; a second handle has the table before. */
@@ -193,13 +195,16 @@ static void try_refusals(bytes file) {
  * a changed table another. */
 static void try_digests(bytes file) {
     lanes_table table = opened(file), second = LANES_CLOSED;
-    bytes first, named, again, changed;
+    bytes first, named, again, lines, changed;
     expect(lanes_share(&table, &second) == LANES_OK, "a second handle");
     TAKE(first, lanes_digest(&table, out, room, &length, &place));
     TAKE(named, lanes_part_name(file.at, file.length, out, room, &length, &place));
     TAKE(again, lanes_digest(&second, out, room, &length, &place));
     expect(first.length == 32 && named.length == 38 && memcmp(first.at, named.at, 32) == 0, "the digest of a table");
     expect(again.length == 32 && memcmp(again.at, first.at, 32) == 0, "the digest of a second handle");
+    TAKE(lines, lanes_batch_digests(&table, LANES_TEXT, out, room, &length, &place));
+    expect(lines.length > 23 && memcmp(lines.at, "BATCH,ROWS,LIVE,DIGEST\n", 23) == 0 && lines.at[lines.length - 1] == '\n', "the digests of batches");
+    expect(lanes_batches(&table) != 1 || memcmp(lines.at + lines.length - 33, first.at, 32) == 0, "the digest of a batch that is alone");
     expect(is_done(imported(&table, "1,100\n1,100\n", 7, 7, 0)), "an import before a digest");
     TAKE(changed, lanes_digest(&table, out, room, &length, &place));
     expect(changed.length == 32 && memcmp(changed.at, first.at, 32) != 0, "the digest of a changed table");
@@ -208,6 +213,7 @@ static void try_digests(bytes file) {
     free(first.at);
     free(named.at);
     free(again.at);
+    free(lines.at);
     free(changed.at);
 }
 

@@ -85,7 +85,9 @@ pub use table_changes::{
     lanes_table_apply, lanes_table_delete, lanes_table_delete_rows, lanes_table_forget,
     lanes_table_import,
 };
-pub use table_reading::{lanes_batches, lanes_digest, lanes_file, lanes_inspect};
+pub use table_reading::{
+    lanes_batch_digests, lanes_batches, lanes_digest, lanes_file, lanes_inspect,
+};
 pub use turn_calls::{
     FolderCall, lanes_folder_begin, lanes_folder_end, lanes_folder_name, lanes_folder_next,
     lanes_folder_relied, lanes_part_name,

@@ -1,5 +1,6 @@
-//! The calls that read the table of a handle: its file, its report, and how many batches it has.
+//! The calls that read the table of a handle: its file, its report, its digest, and its batches.
 ghost use Rattle.std.specs.Prelude.{◌≡◌, IfOk, Ok};
+ghost use Rattle.replica_reports.specs.BatchDigests.{digest_list};
 ghost use Rattle.replica_reports.specs.Digests.{held_digest};
 ghost use Rattle.replica_reports.specs.Held.{held_in};
 ghost use Rattle.replica_changes.specs.Commands.{as_held, file_of};
@@ -14,7 +15,7 @@ use crate::room::hand_out;
 use crate::taking::taken;
 use answer_formats::ReportForm;
 use column_file::export_bytes;
-use replica_reports::{OpenFile, held_digest, inspect};
+use replica_reports::{OpenFile, batch_digests, held_digest, inspect};
 use replica_store::Store;
 use std::alloc::Global;
 use std::mem::replace;
@@ -34,6 +35,14 @@ fn digest_of(alloc: Global, store: &Store) -> Result<Vec<u8>, Fault>
 {
     let digest = held_digest(alloc, store)?;
     Ok(digest.into_bytes())
+}
+
+/// The batches of a store with their digests.
+fn digests_of(alloc: Global, store: &Store, form: ReportForm) -> Result<Vec<u8>, Fault>
+    ensures { Yields (given_by result) (Ok (digest_list form store.now.replica)) }
+{
+    let list = batch_digests(alloc, store, form)?;
+    Ok(list)
 }
 
 /// The form of a report by its number.
@@ -101,6 +110,27 @@ pub extern "C" fn lanes_digest(
         return hand_out(Err(Fault::NotOpen), room, length, place);
     };
     let given = digest_of(alloc, &shared.store);
+    drop(replace(table, Table::of_box(shared)).into_box(alloc));
+    hand_out(given, room, length, place)
+}
+
+/// Gives the batches of the table that a handle has, each with its rows, its live rows and its digest, as `lanes inspect --batches --digest`
+/// writes them: in the format of a number, 2 for JSON and each other for a text. Refused is `NotOpen` if the handle is closed.
+#[unsafe(no_mangle)]
+pub extern "C" fn lanes_batch_digests(
+    alloc: Global,
+    table: &mut Table,
+    format: u8,
+    room: &mut [u8],
+    length: &mut usize,
+    place: &mut Place,
+) -> u8
+    ensures { ReadsOpen (λ r given. Yields given (Ok (digest_list (report_form format) r))) result table.old table.new room.old room.new length.new place.new }
+{
+    let Some(shared) = replace(table, Table::closed()).into_box(alloc) else {
+        return hand_out(Err(Fault::NotOpen), room, length, place);
+    };
+    let given = digests_of(alloc, &shared.store, report_form(format));
     drop(replace(table, Table::of_box(shared)).into_box(alloc));
     hand_out(given, room, length, place)
 }

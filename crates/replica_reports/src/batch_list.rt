@@ -93,8 +93,8 @@ fn digest_line(
     Ok(line)
 }
 
-/// The lines of all batches with their digests, in ascending order of name.
-fn list_with_digests(alloc: Global, store: &Store, form: ReportForm) -> Result<Vec<u8>, Refusal>
+/// The list of a store's batches with their digests, as [`list_batches_with_digests`] writes it. Refused is only `Memory`.
+pub fn batch_digests(alloc: Global, store: &Store, form: ReportForm) -> Result<Vec<u8>, Refusal>
     ensures list { IfOk result (λ list. list.items ≡ digest_list form store.now.replica) }
     ensures refused { IfErr result (λ e. e ≡ Memory) }
 {
@@ -145,6 +145,6 @@ pub fn list_batches_with_digests<W: Write>(
     ensures kept { OnOk result (writer.new.1 ≡ writer.old.1) }
     ensures fault { IfErr result (λ e. CountsWrites e writer.old.1 writer.new.1) }
 {
-    let list = list_with_digests(alloc, file.store(), form)?;
+    let list = batch_digests(alloc, file.store(), form)?;
     writer.write_whole(list.as_slice())
 }

@@ -24,7 +24,7 @@ mod stored;
 
 pub use answers::{NotAnswered, answer, answer_all, answer_text};
 pub use batch_counts::live_count;
-pub use batch_list::{list_batches, list_batches_with_digests};
+pub use batch_list::{batch_digests, list_batches, list_batches_with_digests};
 pub use digest::{first_digits, held_digest};
 pub use dumping::{dump, dump_where};
 pub use exchange::{offer, summary};
