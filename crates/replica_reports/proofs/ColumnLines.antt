@@ -1,5 +1,5 @@
 -- The lines of columns, one after another.
-use Rattle.std.proofs.Common.{◌≡◌, ◌∙◌, ℕ, zero, suc, ◌+◌, ◌<◌, ◌≤◌, List, [], ◌∷◌, ◌++◌, length, drop, Some, refl, sym, ap, append_assoc, append-nil, arith}
+use Rattle.std.proofs.Common.{◌≡◌, ◌∙◌, ℕ, ◌+◌, ◌≤◌, List, [], ◌∷◌, ◌++◌, length, drop, Some, sym, ap, append_assoc, append-nil, arith}
 use Rattle.std.specs.Prelude.{slice_get}
 use Rattle.std.proofs.lemmas.List.{drop_all}
 use Rattle.table_model.specs.Table.{ColumnShape}
@@ -21,9 +21,3 @@ lines_next s columns i column old new line whole is told pushed before =
 -- and none is left at the end
 pub lines_end : (s : StoreForm) (columns : List ColumnShape) (i : ℕ) (lines whole : List (List (List ℕ))) → length columns ≤ i → lines ++ column_lines s i (drop i columns) ≡ whole → lines ≡ whole
 lines_end s columns i lines whole end told = sym (append-nil lines) ∙ ap (λ (left : List ColumnShape). lines ++ column_lines s i left) (sym (drop_all i columns end)) ∙ told
-
--- there is one at each place below their number
-pub has_one : {X : Type 0} (xs : List X) (i : ℕ) → i < length xs → (x : X) × (slice_get xs i ≡ Some x)
-has_one [] i below = absurd (omega (arith, below))
-has_one (x ∷ xs) zero below = (x, refl)
-has_one (x ∷ xs) (suc i) below = has_one xs i (omega (arith, below))

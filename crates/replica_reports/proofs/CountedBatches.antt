@@ -1,5 +1,5 @@
 -- The counts of a state are those of its batches, one after another.
-use Rattle.std.proofs.Common.{◌≡◌, ℕ, zero, suc, ◌+◌, ◌≤◌, Bool, not, List, [], ◌∷◌, ◌++◌, length, filter, map as each, drop, Some, refl, sym, ap, ◌∙◌, arith, append_assoc, append-nil, length-append}
+use Rattle.std.proofs.Common.{◌≡◌, ℕ, zero, suc, ◌+◌, ◌<◌, ◌≤◌, Bool, not, List, [], ◌∷◌, ◌++◌, length, filter, map as each, drop, Some, refl, sym, ap, ◌∙◌, arith, append_assoc, append-nil, length-append}
 use Rattle.std.specs.Prelude.{slice_get}
 use Rattle.std.specs.List.{flat_map}
 use Rattle.std.specs.Option.{option_map}
@@ -33,6 +33,12 @@ drop_at {X = X} (y ∷ ys) zero x is =
 drop_at (y ∷ ys) (suc i) x is =
     let one : suc (i + 1) ≡ suc i + 1 = omega arith in
     drop_at ys i x is ∙ ap (λ (n : ℕ). x ∷ drop n (y ∷ ys)) one
+
+-- there is one at each place below their number
+pub has_one : {X : Type 0} (xs : List X) (i : ℕ) → i < length xs → (x : X) × (slice_get xs i ≡ Some x)
+has_one [] i below = absurd (omega (arith, below))
+has_one (x ∷ xs) zero below = (x, refl)
+has_one (x ∷ xs) (suc i) below = has_one xs i (omega (arith, below))
 
 -- the counts of the batch at a place
 pub counted_at : (s : State) (i : ℕ) (e : Entry) (c : BatchCounts) → slice_get (map.entries s.batches) i ≡ Some e → c ≡ counted s.deleted e → slice_get (batch_counts s) i ≡ Some c

@@ -4,8 +4,7 @@ use Rattle.std.specs.FinMap as map
 use Rattle.std.specs.List.{flat_map}
 use Rattle.replica_store.specs.Replica.{entries_of}
 use Rattle.replica_reports.specs.BatchDigests.{digest_line, digest_list}
-use Rattle.replica_reports.proofs.ColumnLines.{has_one}
-use Rattle.replica_reports.proofs.CountedBatches.{lines_next, lines_end}
+use Rattle.replica_reports.proofs.CountedBatches.{has_one, lines_next, lines_end}
 use Rattle.replica_reports.proofs.batch_list.batch_digests.Goals as goal
 
 pub loop-place-preserved : goal.loop-place-preserved

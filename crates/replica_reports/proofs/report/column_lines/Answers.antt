@@ -2,7 +2,8 @@
 use Rattle.std.proofs.Common.{◌≤◌, List, length, ap, arith}
 use Rattle.table_model.specs.Table.{Table, ColumnShape}
 use Rattle.replica_reports.specs.ColumnFigures.{column_lines}
-use Rattle.replica_reports.proofs.ColumnLines.{lines_next, lines_end, has_one}
+use Rattle.replica_reports.proofs.ColumnLines.{lines_next, lines_end}
+use Rattle.replica_reports.proofs.CountedBatches.{has_one}
 use Rattle.replica_reports.proofs.report.column_lines.Goals as goal
 
 pub loop-place-preserved : goal.loop-place-preserved
