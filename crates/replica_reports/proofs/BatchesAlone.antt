@@ -49,5 +49,10 @@ if_given view P (Err e) given f gives = tt
 -- only memory may run out
 pub only_memory : {X : Type 0} (view : X → Replica) (result : Result X Refusal) (o : OfferForm) → Gives view result (opened (record { 0 = 1 }) o) → IfErr result (λ e. e ≡ Memory)
 only_memory view (Ok x) o gives = tt
-only_memory view (Err e) o (inl no) = cc
+only_memory view (Err e) o (inl refused) = cc
 only_memory view (Err e) o (inr memory) = memory.0
+
+-- what is said of a value, if there is one, after what was said of it
+pub if_told : {X E : Type 0} {P Q : X → Type 0} (result : Result X E) → ((x : X) → P x → Q x) → IfOk result P → IfOk result Q
+if_told (Ok x) f told = f x told
+if_told (Err e) f told = tt
