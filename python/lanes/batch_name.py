@@ -3,7 +3,7 @@
 from __future__ import annotations
 
 import re
-from typing import NamedTuple, Tuple, Union
+from typing import Iterable, NamedTuple, Tuple, Union
 
 from . import arguments
 
@@ -36,7 +36,9 @@ def name_of(given: GivenName) -> BatchName:
         found = re.fullmatch(r"([0-9]{1,10})\.([0-9]{1,10})", given)
         pair = [int(part) for part in found.groups()] if found else []
     else:
-        pair = [arguments.number_of("batch", part) for part in arguments.several("batch", "a text or two numbers", given)]
+        if isinstance(given, (bytes, bytearray, memoryview)) or not isinstance(given, Iterable):
+            raise arguments.wrong("batch", "a text or two numbers", given, "are", "(1, 17) and '1.17' are names")
+        pair = [arguments.number_of("batch", part) for part in given]
     if len(pair) != 2 or not all(0 <= part <= GREATEST for part in pair) or pair == [0, 0]:
         raise ValueError(f"batch: {given!r} is not a batch's name: it is an origin and a number from 1 to 4,294,967,295, as (1, 17) or '1.17'")
     return BatchName(*pair)

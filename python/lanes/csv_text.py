@@ -13,6 +13,16 @@ from . import arguments
 #: What is taken for comma-separated values: the text itself, a file that is open for reading, or a path; or several of these.
 Csv = Union[str, bytes, bytearray, memoryview, IO[str], IO[bytes], os.PathLike[str], Sequence[Union[str, os.PathLike[str]]]]
 
+#: What other modules and the program call arguments of an import, and what they are here.
+HERE = {
+    **dict.fromkeys(["sep", "delimiter", "delim"], "separator="),
+    **dict.fromkeys(["header", "no_header"], "heading="),
+    **dict.fromkeys(["na_values", "nullstr", "nulls"], "null="),
+    **dict.fromkeys(["names", "usecols"], "columns="),
+    **dict.fromkeys(["parse_dates", "date_format", "dateformat"], "dates="),
+    **dict.fromkeys(["true_values", "false_values"], "booleans="),
+}
+
 #: How the path of a file of comma-separated values ends, and what a path has that is of several files.
 _ENDINGS, _PATTERNS = (".csv", ".tsv", ".txt", ".gz"), frozenset("*?[")
 
@@ -46,7 +56,13 @@ def texts_of(csv: object, separator: str, encoding: str) -> List[Text]:
 
 
 def _of_member(csv: object, separator: str, encoding: str) -> List[Text]:
-    """The texts of a member of a list, of which a text without a line's end is a path."""
+    """The texts of a member of a list, of which a text without a line's end is a path.
+
+    Raises:
+        TypeError: it is a row.
+    """
+    if isinstance(csv, (list, tuple, dict)):
+        raise arguments.wrong("csv", "a list of texts or paths", csv, cure="import_rows takes rows")
     if isinstance(csv, str) and "\n" not in csv:
         return [_of_path(path, encoding) for path in _paths(csv)]
     return texts_of(csv, separator, encoding)

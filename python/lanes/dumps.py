@@ -25,7 +25,7 @@ def dumped(table: Table, names: bool, where: Filled, columns: Optional[Iterable[
         Refused: `NoSuchColumn` of the columns, or a fault of the condition.
         ValueError: `columns` has no name.
     """
-    kinds, has_names = table.columns, arguments.flag_of("names", names)
+    kinds, has_names = table.columns, arguments.flag_of("names", names, "path= names the file that is written")
     chosen = list(kinds) if columns is None else names_of(columns, table)
     if not chosen:
         raise ValueError("columns: there is no name of a column")

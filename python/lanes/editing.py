@@ -63,9 +63,9 @@ class Edit:
 
     def apply(self, offer: bytes) -> None:
         """Takes what an offer brings, as `Table.apply` does, with its refusals."""
-        offered = arguments.bytes_of("offer", offer)
+        offered = arguments.bytes_of("offer", offer, "table.offer(summary) and table.to_bytes() give them")
         with self._alone:
-            self._take(offered)
+            self._take(offered, "offer")
 
     def query(self, sql: str, values: Values = NONE) -> Answer:
         """The answer to a query of the table as it is now, as of `Table.query`."""
@@ -81,8 +81,8 @@ class Edit:
         with self._alone:
             self._take(some._file)
 
-    def _take(self, offer: calls.Input) -> None:
+    def _take(self, offer: calls.Input, subject: str = "") -> None:
         """Takes what an offer brings, while no other thread has the table."""
-        with explaining.of_tables(lambda: words_of(offer), self._of._words), explaining.of_input(offer):
+        with explaining.of_tables(lambda: words_of(offer), self._of._words), explaining.of_input(offer, subject):
             self._opened.apply(offer)
         self._room += calls.length_of(offer)

@@ -40,6 +40,8 @@ def explained(table: Table, given: calls.Given, subject: str = "", told: Callabl
     text that was given."""
 
     def explain(refused: Refused) -> Refused:
+        if refused.name == "BadName":
+            return refused.said_of("batch")
         if refused.name not in _OF_A_TEXT:
             return refused
         return told(calls.explained(refused, given, table._words()).said_of(subject))
@@ -47,9 +49,9 @@ def explained(table: Table, given: calls.Given, subject: str = "", told: Callabl
     return Explaining(explain)
 
 
-def of_input(data: calls.Input) -> Explaining:
-    """A call that is given a file or a message: if it is another thing, the sentence says what."""
-    return Explaining(lambda refused: calls.explained(refused, calls.Given(calls.INPUT, data)))
+def of_input(data: calls.Input, subject: str = "") -> Explaining:
+    """A call that is given a file or a message: if it is another thing, the sentence says what. If it is said of an argument, it names it."""
+    return Explaining(lambda refused: calls.explained(refused, calls.Given(calls.INPUT, data)).said_of(subject or refused.subject))
 
 
 def of_tables(found: Callable[[], bytes], wanted: Callable[[], bytes]) -> Explaining:

@@ -11,7 +11,7 @@ from . import arguments, calls, explaining, folder_driver, part_folder, resting
 from .batch_name import BatchName, GivenName, name_of
 from .column_types import ColumnTypes
 from .csv_fields import Dates
-from .csv_text import Csv
+from .csv_text import HERE, Csv
 from .errors import Busy, Damaged, Refused
 from .owned import OpenFile
 from .pieces import Progress
@@ -66,7 +66,7 @@ class Folder(Readable):
         if not os.path.isabs(self.path):
             self.path = os.path.join(os.getcwd(), self.path)
         with OpenFile() as opened:
-            found = os.fstat(opened.open_folder(self.path))
+            found = os.fstat(_opened(opened, self.path))
         self._identity = found.st_dev, found.st_ino
 
     @classmethod
@@ -101,6 +101,7 @@ class Folder(Readable):
         """
         return self._joined()[0]
 
+    @arguments.known_elsewhere(**HERE)
     def import_csv(
         self,
         csv: Csv,
@@ -209,7 +210,7 @@ class Folder(Readable):
             Refused: a fault of an offer, `SchemaDiffers`, `Conflict` or `Full`.
             OSError: a part that has one of the batches can't be synced, and nothing is put.
         """
-        given = [arguments.bytes_of("offer", offer) for offer in offers]
+        given = [arguments.bytes_of(f"offers[{at}]", offer, "folder.offer(summary) and table.to_bytes() give them") for at, offer in enumerate(offers)]
         empty = self._heads().empty
         own, refusal = _all_of(given, empty._asked())
         basis = self._basis(own.meets)
@@ -226,6 +227,7 @@ class Folder(Readable):
             part_folder.keep(self.path, names)
         return batches
 
+    @arguments.known_elsewhere(all="everything=")
     def pack(self, *, everything: bool = False) -> Tuple[int, int]:
         """Joins small parts, or all of them, into one and removes them; how many parts there are then, and how many were removed. It also
         removes temporaries that a killed process left.
@@ -331,7 +333,7 @@ class Folder(Readable):
         while True:
             names = part_folder.listed(self.path)
             if not names:
-                raise FileNotFoundError(errno.ENOENT, "this folder has no part", self.path)
+                raise FileNotFoundError(errno.ENOENT, "this folder has no part: Folder.create makes a folder that has one", self.path)
             try:
                 return look(names), names
             except FileNotFoundError as gone:
@@ -519,6 +521,20 @@ class Folder(Readable):
     def _wait(self) -> Wait:
         """A wait for others, who take parts away."""
         return Wait("parts of this folder come and go", self.path)
+
+
+def _opened(file: OpenFile, path: str) -> int:
+    """The number of a folder that is opened.
+
+    Raises:
+        NotADirectoryError, FileNotFoundError: there is no such folder.
+    """
+    try:
+        return file.open_folder(path)
+    except NotADirectoryError as fault:
+        raise NotADirectoryError(fault.errno, "this is a file, and not a folder: lanes.open opens either", path) from None
+    except FileNotFoundError as fault:
+        raise FileNotFoundError(fault.errno, "there is no such folder: Folder.create makes one", path) from None
 
 
 def _all_of(offers: Iterable[bytes], empty: calls.Opened) -> Tuple[calls.Opened, Optional[Refused]]:

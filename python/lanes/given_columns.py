@@ -100,7 +100,7 @@ def _given(table: Table, columns: Mapping[str, Any]) -> Union[ArrayRows, PlainRo
         TypeError: values are no whole numbers.
     """
     if not isinstance(columns, Mapping):
-        raise arguments.wrong("columns", "a dict of columns", columns)
+        raise arguments.wrong("columns", "a dict of columns", columns, cure="import_rows takes rows")
     for word in columns:
         if not isinstance(word, str):
             raise TypeError(f"columns: {word!r} is no name of a column: the columns {', '.join(table.columns)} are wanted")
@@ -132,7 +132,7 @@ def columns_of(frame: Any) -> dict[str, Any]:
         ValueError: a name is there twice, or the index has a name: it would be lost.
     """
     if not hasattr(frame, "columns") or not hasattr(frame, "iloc"):
-        raise arguments.wrong("frame", "a frame of pandas", frame)
+        raise arguments.wrong("frame", "a frame of pandas", frame, cure="import_rows takes rows, and import_columns a dict of columns")
     named = [name for name in frame.index.names if name is not None]
     if named:
         raise ValueError(f"frame: the index {', '.join(map(str, named))} is no column: frame.reset_index() makes one of it, frame.reset_index(drop=True) drops it")
@@ -171,6 +171,8 @@ class Column:
             return
         else:
             self._values, self._nulls = _listed(name, data)
+        if self._values.ndim == 0:
+            raise arguments.wrong(f"column {name}", "a list of whole numbers", data, cure=f"[{data!r}] is a list")
         if self._values.ndim != 1 or self._nulls is not None and self._nulls.shape != self._values.shape:
             raise ValueError(f"column {name}: a list of numbers is wanted, and as many nulls")
         kind = self._values.dtype

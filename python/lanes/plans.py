@@ -91,13 +91,18 @@ def combine(partials: Iterable[_Bytes]) -> Partial:
         Refused: a fault of a partial answer, `SchemaDiffers`, `QueryDiffers` or `TooMany`.
         ValueError: there are no partial answers.
     """
-    level = [arguments.bytes_of("partials", partial) for partial in arguments.several("partials", "several partial answers", partials)]
+    level = [arguments.bytes_of(f"partials[{at}]", partial, "table.partial(sql) gives them") for at, partial in enumerate(arguments.several("partials", "several partial answers", partials))]
     if not level:
         raise ValueError("partials: there are none to combine")
     if len(level) == 1:
-        judge(level[0])
+        _judge(level)
+    given = level
     while len(level) > 1:  # in pairs, so that a partial answer is read as often as the tree is high, and not once for each other one
-        pairs = [_joined(one, other) for one, other in zip(level[0::2], level[1::2])]
+        try:
+            pairs = [_joined(one, other) for one, other in zip(level[0::2], level[1::2])]
+        except Refused:
+            _judge(given)
+            raise
         level = pairs + level[2 * len(pairs) :]
     return Partial(level[0])
 
@@ -114,10 +119,11 @@ def finish(partial: _Bytes, expect: Iterable[_Bytes] = ()) -> Answer:
             `Missing` with the least batch that was not counted; `QueryDiffers` if the groups of the partial answer are not those of its
             query; `TooMany`.
     """
-    given = Partial(arguments.bytes_of("partial", partial))
-    expected = [arguments.bytes_of("expect", summary) for summary in arguments.several("expect", "several summaries", expect)]
+    given = Partial(arguments.bytes_of("partial", partial, "table.partial(sql) gives them"))
+    expected = [arguments.bytes_of(f"expect[{at}]", summary, "table.summary() gives them") for at, summary in enumerate(arguments.several("expect", "several summaries", expect))]
     if not expected:
-        return Answer.of_kept(calls.Kept.of_partial(given), given.query)
+        with explaining.of_input(given, "partial"):
+            return Answer.of_kept(calls.Kept.of_partial(given), given.query)
     lengths, room = (ctypes.c_size_t * len(expected))(*map(len, expected)), _ROOM + calls.FIELD * len(given)
     try:
         text = calls.given(calls.FINISH_EXPECTED, room, given, b"".join(expected), ctypes.addressof(lengths), len(expected), 0).decode()
@@ -155,7 +161,21 @@ def check_apart(tables: Iterable[Table]) -> None:
     given = [arguments.is_of("tables", Table, table) for table in arguments.several("tables", "several tables", tables)]
     partials = [table.partial(f"SELECT COUNT(*) FROM {table.name}") for table in given]
     if partials:
-        combine(partials)
+        try:
+            combine(partials)
+        except NotApart as fault:
+            raise NotApart(f"tables: batch {fault.batch} is in two of them, or one deletes rows of it that another has: merge these, as one.merge(other)", fault.batch) from None
+
+
+def _judge(partials: Iterable[bytes]) -> None:
+    """Refuses the first of some partial answers that is at fault.
+
+    Raises:
+        Refused: its first fault, which is said of its place.
+    """
+    for at, partial in enumerate(partials):
+        with explaining.of_input(partial, f"partials[{at}]"):
+            judge(partial)
 
 
 def _joined(one: bytes, other: bytes) -> bytes:

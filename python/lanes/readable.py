@@ -291,9 +291,9 @@ class Readable:
         Raises:
             Refused: a fault of the summary or of the file, or `SchemaDiffers`.
         """
-        given, table = arguments.bytes_of("summary", summary), self._table()
+        given, table = arguments.bytes_of("summary", summary, "summary() gives them"), self._table()
         held = table._file
-        with explaining.of_tables(lambda: Schema.of(given).words, table._words), explaining.of_input(given):
+        with explaining.of_tables(lambda: Schema.of(given).words, table._words), explaining.of_input(given, "summary"):
             return calls.given(calls.OFFER, table._length() + _ROOM, held, given)
 
     def save(self, path: Union[str, os.PathLike[str]]) -> None:

@@ -14,9 +14,9 @@ from typing import TYPE_CHECKING, Any, Iterable, Mapping, Optional, Type, TypeVa
 
 from . import arguments, calls, explaining
 from .batch_name import BatchName, GivenName, name_of
-from .column_types import ColumnTypes, holding, type_of
+from .column_types import ColumnTypes, cure_of, holding, type_of
 from .csv_fields import Dates, FieldChanges, null_words
-from .csv_text import Csv, texts_of
+from .csv_text import HERE, Csv, texts_of
 from .errors import Refused
 from .owned import OpenFile
 from .pieces import Progress, with_text, with_texts
@@ -42,7 +42,7 @@ _WORDS = 8
 _PIECE = 1 << 20
 
 #: The numbers of refusals that are looked at or made here.
-_BAD_SCHEMA, _BAD_RANGE = 12, 23
+_BAD_NAME, _BAD_SCHEMA, _BAD_RANGE = 11, 12, 23
 
 #: How many bytes have the front of a file, whatever its schema.
 _FRONT = 4096
@@ -72,9 +72,10 @@ class Table(Readable):
 
     __slots__ = ("_held", "_opened", "_read_schema", "_room", "__weakref__")
 
-    def __init__(self, file: calls.Input) -> None:
+    def __init__(self, file: Optional[calls.Input] = None) -> None:
         if not isinstance(file, (bytes, calls.Mapped)):
-            raise TypeError(f"file: a table is made by Table.create, Table.open or Table.from_bytes, and not of what is of type {type(file).__name__}")
+            given = "" if file is None else f", and not of what is of type {type(file).__name__}"
+            raise TypeError(f"file: a table is made by Table.create, Table.open or Table.from_bytes{given}")
         self._held: Optional[calls.Input] = file
         self._opened: Optional[calls.Opened] = None
         self._read_schema: Optional[Schema] = None
@@ -97,12 +98,9 @@ class Table(Readable):
         for pair in columns.items() if isinstance(columns, Mapping) else arguments.several("columns", "a dict or pairs", columns):
             if not isinstance(pair, (tuple, list)) or len(pair) != 2 or not isinstance(pair[0], str):
                 raise TypeError(f"columns: {pair!r} is not a column's name and its type: columns are a dict, or pairs, as [('SITE', 'SMALLINT')]")
-            kind = type_of(pair[1])
-            if kind is None and not isinstance(pair[1], (str, type)) and not hasattr(pair[1], "name"):
-                raise TypeError(f"columns: {pair[1]!r} is no name of a type, as 'SMALLINT'")
-            if kind is None:
-                raise calls.refused(_BAD_SCHEMA, sentence=f"the type {pair[1]!r} of column {pair[0]} is unknown: a type is TINYINT, SMALLINT, INTEGER or BIGINT")
-            words += [_judged("columns", arguments.text_of("columns", pair[0]).decode()), kind]
+            words += [_judged("columns", arguments.text_of("columns", pair[0]).decode()), _type_of(*pair)]
+        if len(words) == 1:
+            raise calls.refused(_BAD_SCHEMA, sentence="one column or more is wanted, as {'SITE': 'SMALLINT'}").said_of("columns")
         text = arguments.text_of("columns", " ".join(words))
         try:
             return cls(calls.given(calls.CREATE, _ROOM, text))
@@ -184,8 +182,11 @@ class Table(Readable):
         Raises:
             Refused: the file's first fault.
         """
-        table = cls(arguments.bytes_of("file", file))
-        table._asked()
+        table = cls(arguments.bytes_of("file", file, "Table.open opens a path"))
+        try:
+            table._asked()
+        except Refused as refusal:
+            raise refusal.said_of("file") from None
         return table
 
     @classmethod
@@ -221,6 +222,7 @@ class Table(Readable):
         """The columns in order: of each its name and its type, in upper case."""
         return dict(self._schema().columns)
 
+    @arguments.known_elsewhere(**HERE)
     def import_csv(
         self: _Self,
         csv: Csv,
@@ -398,9 +400,9 @@ class Table(Readable):
         try:
             file = self._asked().without_held(room, *rows) if is_held else self._asked().without_rows(room, *rows)
         except Refused as refusal:
-            if refusal.number != _BAD_RANGE:
-                raise
-            raise refusal.said_of("last", f"{end} comes before first, which is {begin}") from None
+            if refusal.number == _BAD_RANGE:
+                raise refusal.said_of("last", f"{end} comes before first, which is {begin}") from None
+            raise refusal.said_of("batch") if refusal.number == _BAD_NAME else refusal from None
         return self if file is None else self._made(file)
 
     def forget(self: _Self) -> _Self:
@@ -446,8 +448,7 @@ class Table(Readable):
         Raises:
             Refused: a fault of the offer or of the file, `SchemaDiffers`, `Conflict` or `Full`.
         """
-        offered = arguments.bytes_of("offer", offer)
-        return self._applied(offered)
+        return self._applied(arguments.bytes_of("offer", offer, "table.offer(summary) and table.to_bytes() give them"))
 
     def edit(self) -> Edit:
         """This table to be changed in its place: then a change costs what it brings, and not a copy of the table. This table stays as it is.
@@ -492,7 +493,7 @@ class Table(Readable):
 
     def _applied(self: _Self, offer: calls.Input) -> _Self:
         """The table with what an offer brings."""
-        with explaining.of_tables(lambda: words_of(offer), self._words), explaining.of_input(offer):
+        with explaining.of_tables(lambda: words_of(offer), self._words), explaining.of_input(offer, "offer"):
             return self._made(calls.made(calls.APPLY, self._length() + calls.length_of(offer) + _ROOM, self._file, offer))
 
     def _asked(self) -> calls.Opened:
@@ -576,7 +577,25 @@ def _table_of(other: object) -> Table:
         return other.read()
     if isinstance(other, Table):
         return other
-    raise arguments.wrong("others", "a Table or a Folder", other)
+    is_path = isinstance(other, (str, os.PathLike))
+    raise arguments.wrong("others", "a Table or a Folder", other, cure="lanes.open opens a path" if is_path else "merge(*tables) takes several" if isinstance(other, (list, tuple)) else "")
+
+
+def _type_of(column: str, given: object) -> str:
+    """The type of a column.
+
+    Raises:
+        Refused: `BadSchema`: there is no such type.
+        TypeError: it is no name of a type.
+    """
+    kind = type_of(given)
+    if kind is None and not isinstance(given, (str, type)) and not hasattr(given, "name"):
+        raise TypeError(f"columns: {given!r} is no name of a type, as 'SMALLINT'")
+    if kind is None:
+        word = given if isinstance(given, str) else given.__name__ if isinstance(given, type) else str(getattr(given, "name", given))
+        sentence = f"the type {word!r} of column {column} is unknown: a type is TINYINT, SMALLINT, INTEGER or BIGINT"
+        raise calls.refused(_BAD_SCHEMA, sentence="; ".join(filter(None, [sentence, cure_of(word)])))
+    return kind
 
 
 def _judged(argument: str, word: str) -> str:

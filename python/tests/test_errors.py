@@ -150,10 +150,10 @@ class Sentences(InRoom):
         text = "this is a text file, not a lanes file: Table.import_csv imports comma-separated values"
         summary = "this is a summary: Table.offer reads it"
         self.told(lambda: Table.open(path), text, path)
-        self.told(lambda: Table.from_bytes(b"A,B\n"), text)
-        self.told(lambda: Table.from_bytes(TABLE.summary()), summary)
-        self.told(lambda: TABLE.apply(TABLE.summary()), summary)
-        self.told(lambda: TABLE.offer(b"A,B\n"), text)
+        self.told(lambda: Table.from_bytes(b"A,B\n"), text, "file")
+        self.told(lambda: Table.from_bytes(TABLE.summary()), summary, "file")
+        self.told(lambda: TABLE.apply(TABLE.summary()), summary, "offer")
+        self.told(lambda: TABLE.offer(b"A,B\n"), text, "summary")
         part = part_folder.put(self.path, b"A,B\n")
         self.told(self.folder.read, text, os.path.join(self.path, part))
 
@@ -220,21 +220,21 @@ class Arguments(InRoom):
             ("columns", TypeError, Folder.create, (self.path + "2", "T", 5)),
             ("sql", TypeError, folder.query, (None,)),
             ("summary", TypeError, folder.offer, (5,)),
-            ("offer", TypeError, folder.apply, (5,)),
+            ("offers[0]", TypeError, folder.apply, (5,)),
             ("csv", TypeError, folder.import_csv, (5,)),
             ("batch", TypeError, lambda given: folder.import_csv("1,1\n", batch=given), (5,)),
             ("table", TypeError, lanes.split, ("SELECT COUNT(*) FROM T", 5)),
             ("sql", TypeError, lanes.split, (None, TABLE)),
             ("table", TypeError, plan.ask, (5,)),
-            ("partials", TypeError, plan.combine, (partial, 5)),
+            ("partials[1]", TypeError, plan.combine, (partial, 5)),
             ("partials", TypeError, lanes.combine, (5,)),
             ("partials", TypeError, lanes.combine, (partial,)),
-            ("partials", TypeError, lanes.combine, ([partial, "text"],)),
+            ("partials[1]", TypeError, lanes.combine, ([partial, "text"],)),
             ("partials", ValueError, lanes.combine, ([],)),
             ("partial", TypeError, lanes.finish, (5,)),
             ("expect", TypeError, lanes.finish, (partial, 5)),
             ("expect", TypeError, lanes.finish, (partial, TABLE.summary())),
-            ("expect", TypeError, lanes.finish, (partial, [5])),
+            ("expect[0]", TypeError, lanes.finish, (partial, [5])),
             ("count", TypeError, TABLE.spread, ("2",)),
             ("count", ValueError, TABLE.spread, (0,)),
             ("count", ValueError, TABLE.spread, (10**9,)),
