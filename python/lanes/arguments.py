@@ -153,7 +153,7 @@ def several(name: str, what: str, given: Any) -> list[Any]:
         TypeError: it is one text, or bytes, or nothing that has several.
     """
     if isinstance(given, (str, bytes, bytearray, memoryview)) or not isinstance(given, Iterable):
-        raise wrong(name, what, given, "are")
+        raise wrong(name, what, given, "is" if what.startswith("a ") else "are")
     return list(given)
 
 

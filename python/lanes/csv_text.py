@@ -114,7 +114,7 @@ def _of_text(csv: Any, encoding: str) -> bytes:
     if isinstance(found, str):
         return arguments.text_of("csv", found)
     if not isinstance(found, (bytes, bytearray, memoryview)):
-        raise arguments.wrong("csv", "a text of comma-separated values, or a file of one,", csv)
+        raise arguments.wrong("csv", "a text of comma-separated values, or a file of one,", csv, cure="list() makes a list of paths" if hasattr(csv, "__next__") else "")
     data = bytes(found)
     if found is csv and b"\n" not in data and (data.lower().endswith(tuple(map(str.encode, _ENDINGS))) or data and b"\0" not in data and os.path.isfile(data)):
         path = os.fsdecode(data)

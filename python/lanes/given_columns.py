@@ -172,7 +172,8 @@ class Column:
         else:
             self._values, self._nulls = _listed(name, data)
         if self._values.ndim == 0:
-            raise arguments.wrong(f"column {name}", "a list of whole numbers", data, cure=f"[{data!r}] is a list")
+            cure = f": [{data}] is a list" if isinstance(data, int) else ": list() makes one of it" if isinstance(data, Iterable) and not isinstance(data, str) else ""
+            raise ValueError(f"column {name}: a list of numbers is wanted, and this is of type {type(data).__name__}{cure}")
         if self._values.ndim != 1 or self._nulls is not None and self._nulls.shape != self._values.shape:
             raise ValueError(f"column {name}: a list of numbers is wanted, and as many nulls")
         kind = self._values.dtype

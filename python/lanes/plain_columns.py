@@ -156,7 +156,7 @@ def _values_of(at: int, row: Any, names: List[str]) -> Sequence[Any]:
             raise ValueError(f"rows[{at}]: the columns {', '.join(names)} are wanted, each once, and these are {', '.join(map(str, row)) or 'none'}")
         return [given[name] for name in names]
     if not isinstance(row, Sequence) or isinstance(row, (str, bytes, bytearray, memoryview)):
-        raise arguments.wrong(f"rows[{at}]", "a dict or a tuple", row)
+        raise arguments.wrong(f"rows[{at}]", "a dict or a tuple", row, cure="import_columns takes arrays" if hasattr(row, "dtype") else "")
     if len(row) != len(names):
         raise ValueError(f"rows[{at}]: {len(names)} values are wanted, of {', '.join(names)}, and these are {len(row)}")
     return row

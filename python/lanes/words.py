@@ -28,6 +28,8 @@ _WORDS = (
     ("lanes combine, lanes finish and lanes inspect read it", "lanes.combine and lanes.finish read it"),
     ("import CSV with lanes import, run a script with lanes run", "Table.import_csv imports comma-separated values"),
     ("there are no parameters: write the number itself", "a value can't be here"),
+    ("write a day as a number, as 20261130, and a time as seconds", "dates= makes numbers of days and times, as dates={'DAY': '%Y%m%d'}"),
+    ("write 1 for true and 0 for false", "booleans= makes 1 and 0 of truth values, as booleans=['ACTIVE']"),
     ("say so by --null", "say so by null="),
     ("say --no-header", "say heading=False"),
     ("with --no-header", "with heading=False"),

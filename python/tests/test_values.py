@@ -44,8 +44,8 @@ WRONG: List[Tuple[str, Any, type, str]] = [
     ("A = ?", [], ValueError, "values: condition has 1 ?, and 0 values are given"),
     ("A = ?", [1, 2], ValueError, "values: condition has 1 ?, and 2 values are given"),
     ("A = 1", [1], ValueError, "values: condition has no ?, and 1 value is given"),
-    ("A = ?", 5, TypeError, "values: a list of values are wanted here, and this is of type int"),
-    ("A = ?", "5", TypeError, "values: a list of values are wanted here, and this is of type str"),
+    ("A = ?", 5, TypeError, "values: a list of values is wanted here, and this is of type int"),
+    ("A = ?", "5", TypeError, "values: a list of values is wanted here, and this is of type str"),
     ("A = ?", {"A": 5}, TypeError, "values: a list of values is wanted here, and this is of type dict"),
 ]
 
