@@ -367,6 +367,7 @@ def loads_are_at_fault(room):
     os.rename(inbox / "1.47.csv", inbox / "1.4 7.csv")
     (inbox / "1.48.csv").chmod(0)
     if os.getuid() == 0:
+        room.has_program()  # where it is now, another user may not read it
         for path in [room.room, *room.room.rglob("*")]:
             os.chown(path, 65534, 65534, follow_symlinks=False)
         prefix = ("setpriv", "--reuid", "65534", "--regid", "65534", "--clear-groups")

@@ -114,6 +114,11 @@ class Room:
     def other(self, site):
         return next(name for name in SITES if name != site)
 
+    def has_program(self):
+        """Has the program in this room itself, for a user who can't read where it was."""
+        own = shutil.copy(self.program, self.bin / "program")
+        self.put("lanes", (self.bin / "lanes").read_text().replace(str(self.program), str(own)))
+
     def put(self, name, text):
         (self.bin / name).write_text(text)
         (self.bin / name).chmod(0o755)
