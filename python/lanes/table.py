@@ -100,7 +100,7 @@ class Table(Readable):
                 raise TypeError(f"columns: {pair!r} is not a column's name and its type: columns are a dict, or pairs, as [('SITE', 'SMALLINT')]")
             words += [_judged("columns", arguments.text_of("columns", pair[0]).decode()), _type_of(*pair)]
         if len(words) == 1:
-            raise calls.refused(_BAD_SCHEMA, sentence="one column or more is wanted, as {'SITE': 'SMALLINT'}").said_of("columns")
+            raise calls.refused(_BAD_SCHEMA, sentence="a table has 1 to 32 columns, as {'SITE': 'SMALLINT'}, and these are none").said_of("columns")
         text = arguments.text_of("columns", " ".join(words))
         try:
             return cls(calls.given(calls.CREATE, _ROOM, text))

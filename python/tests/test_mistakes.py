@@ -23,7 +23,7 @@ MISTAKES = {
     "Folder('v.lanes')": "[Errno 20] this is a file, and not a folder: lanes.open opens either: 'ROOM/v.lanes'",
     "Folder('nope')": "[Errno 2] there is no such folder: Folder.create makes one: 'ROOM/nope'",
     "Folder('empty').head()": "[Errno 2] this folder has no part: Folder.create makes a folder that has one: 'ROOM/empty'",
-    "Table.create('T', {})": "BadSchema: columns: one column or more is wanted, as {'SITE': 'SMALLINT'}",
+    "Table.create('T', {})": "BadSchema: columns: a table has 1 to 32 columns, as {'SITE': 'SMALLINT'}, and these are none",
     "Table.create('T', ['A'])": "columns: 'A' is not a column's name and its type: columns are a dict, or pairs, as [('SITE', 'SMALLINT')]",
     "Table.create('T', {'A': int})": "BadSchema: the type 'int' of column A is unknown: a type is TINYINT, SMALLINT, INTEGER or BIGINT",
     "Table.create('T', {'A': 'text'})": "BadSchema: the type 'text' of column A is unknown: a type is TINYINT, SMALLINT, INTEGER or BIGINT; store a number for each text",
