@@ -27,7 +27,7 @@ pub(crate) trait Gathers: Drop {
     /// What is so of a fault, and of parts of which the last one has it.
     ghost stops: { Self.Way → PartFault → List PartForm → Type 0 };
 
-    /// The same with one part more. Refused is a part that is at fault, beside those before it.
+    /// What is made with one part more. A part is refused if it is at fault, by itself or together with those before it.
     fn with(
         self,
         alloc: Global,
@@ -39,7 +39,7 @@ pub(crate) trait Gathers: Drop {
         ensures stopped { IfErr result (λ fault. More (made_of way.now self) (stops way.now fault) (record { name = name.now; bytes = bytes.now })) };
 }
 
-/// The same once the part of a name is read. Its place is told if it is refused.
+/// What is made with one part more, once the part of that name is read. Its place is told if it is refused.
 fn gather_one<F: Folder, G: Gathers>(
     alloc: Global,
     folder: &mut F,

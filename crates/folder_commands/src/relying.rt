@@ -48,7 +48,7 @@ pub fn keep_and_put<F: Folder>(
     folder_protocol::keep_and_put(alloc, folder, relied, temporary, name, bytes)
 }
 
-/// The same if what judges the folder's parts wants none that is there, as [`put_judged`](folder_protocol::put_judged) does it.
+/// Puts a part as [`keep_and_put`] does it, if what judges the folder's parts wants none that is there.
 ///
 /// None if a name is there that is wanted: nothing is put then. Take what came, and begin anew.
 pub fn keep_and_put_judged<F: Folder, T: Taker>(

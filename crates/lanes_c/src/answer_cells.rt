@@ -163,7 +163,8 @@ pub(crate) fn put_numbers(
     true
 }
 
-/// The same of numbers in two words, which all have room.
+/// Writes a column into an array of numbers in two words, which has room for each number, and the marks into another one. It
+/// answers whether they are written.
 pub(crate) fn put_wides(
     rows: &[AnswerRow],
     column: usize,

@@ -37,7 +37,7 @@ fn answer_over(
     Ok(Box::new(alloc, answer)?)
 }
 
-/// The same of a query in bytes.
+/// The answer of a query in bytes over a store.
 fn answer_asked(
     alloc: Global,
     store: &Store,
@@ -50,7 +50,7 @@ fn answer_asked(
     answer_over(alloc, store, hash_key, sql)
 }
 
-/// The same of what is open.
+/// The answer of a query in bytes over what is open.
 fn answer_of_open(alloc: Global, shared: &Shared, sql: &[u8]) -> Result<Box<Answer>, Fault>
     ensures { Asks (answer_by result) sql.now (query_answer sql.now shared.now.store.value.replica.schema shared.now.store.value.replica.state) }
 {
@@ -65,7 +65,7 @@ fn answer_of_partial(alloc: Global, partial: PartialAnswer) -> Result<Box<Answer
     Ok(Box::new(alloc, answer)?)
 }
 
-/// The same of a partial answer in bytes.
+/// The answer to which a partial answer in bytes is finished.
 fn finished_answer(alloc: Global, partial: &[u8]) -> Result<Box<Answer>, Fault>
     ensures { FinishesTo (answer_by result) partial.now }
 {
@@ -227,7 +227,9 @@ pub extern "C" fn lanes_answer_numbers(
     written
 }
 
-/// The same of numbers in two words, of which each has room.
+/// Gives the numbers of a column of the answer of a handle in two words each, in which each number has room, 0 at a null, and of a
+/// mean its millionths; and for each row a mark: 1 at a value, and 0 at a null. They are written if both arrays have room. It answers
+/// whether they are.
 #[unsafe(no_mangle)]
 pub extern "C" fn lanes_answer_wide(
     alloc: Global,

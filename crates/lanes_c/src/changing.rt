@@ -81,7 +81,7 @@ pub(crate) fn loaded_in(
     Ok(load)
 }
 
-/// The same in the usual dialect.
+/// The rows of a text in the usual dialect as batches of a table.
 pub(crate) fn loaded(
     alloc: Global,
     schema: &Schema,
@@ -94,7 +94,7 @@ pub(crate) fn loaded(
     loaded_in(alloc, schema, Dialect::usual(), csv, has_heading)
 }
 
-/// The same of the table that a file holds.
+/// The rows of a text in the usual dialect as batches of the table that a file holds.
 fn loaded_for(alloc: Global, file: &[u8], csv: &[u8], has_heading: bool) -> Result<Load, Fault>
     ensures load { IfOk result (λ load. Loads file.now csv.now has_heading load) }
     ensures fault { IfErr result (λ fault. IsWhyNotLoaded file.now csv.now has_heading fault) }

@@ -113,7 +113,7 @@ fn put_asked<C: Columns>(
     }
 }
 
-/// The same of a store.
+/// Writes the columns that are asked for of some batches of a store into rooms, as [`put_asked`] does it.
 fn columns_between(
     alloc: Global,
     store: &Store,
@@ -132,7 +132,7 @@ fn columns_between(
     )
 }
 
-/// The same of all batches of a store.
+/// Writes the columns that are asked for of all batches of a store into rooms, as [`put_asked`] does it.
 fn columns_of_all(
     alloc: Global,
     store: &Store,
@@ -278,7 +278,7 @@ fn schema_words(alloc: Global, schema: &Schema) -> Result<Vec<u8>, AllocError>
     Ok(words)
 }
 
-/// The same, or out of memory.
+/// The words of which a table is made, or out of memory.
 fn schema_given(alloc: Global, schema: &Schema) -> Result<Vec<u8>, Fault>
     ensures { Yields (given_by result) (Ok (schema_words schema.now)) }
 {

@@ -28,7 +28,7 @@ fn covered(alloc: Global, partial: &PartialAnswer, form: ReportForm) -> Result<V
     taken(done, writer)
 }
 
-/// The same of a partial answer in bytes.
+/// What a partial answer in bytes covers.
 fn partial_inspected(alloc: Global, partial: &[u8], form: ReportForm) -> Result<Vec<u8>, Fault>
     ensures { InspectsPartial (given_by result) form partial.now }
 {
@@ -45,7 +45,7 @@ fn named(alloc: Global, summary: &Summary, form: ReportForm) -> Result<Vec<u8>, 
     taken(done, writer)
 }
 
-/// The same of a summary in bytes.
+/// Which batches a summary in bytes names.
 fn summary_inspected(alloc: Global, summary: &[u8], form: ReportForm) -> Result<Vec<u8>, Fault>
     ensures { Yields (given_by result) (coverage_of_summary form summary.now) }
 {

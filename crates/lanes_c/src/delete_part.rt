@@ -42,7 +42,7 @@ fn part_deleting(alloc: Global, store: &Store, condition: &str) -> Result<Delete
     })
 }
 
-/// The same of a condition in bytes.
+/// The part of a delete in what a store has, by a condition in bytes.
 fn part_deleting_where(alloc: Global, store: &Store, condition: &[u8]) -> Result<DeletePart, Fault>
     ensures { Asks (part_by result) condition.now (part_of_delete condition.now store.now.replica) }
 {

@@ -28,7 +28,7 @@ fn chosen_rows(
     taken(done, writer)
 }
 
-/// The same of a file.
+/// The rows and the columns of a file that are asked for, as comma-separated values.
 fn dumped_where(
     alloc: Global,
     file: &[u8],

@@ -260,7 +260,7 @@ impl Fault {
         }
     }
 
-    /// The same fault as that of one query of several, from 0.
+    /// This fault as that of one query of several, which are counted from 0.
     pub fn of_query(self, query: u64) -> Fault
         ensures { result ≡ of_query self query }
     {
@@ -270,7 +270,7 @@ impl Fault {
         }
     }
 
-    /// The same fault as that of the names of columns.
+    /// This fault as that of the names of columns.
     pub fn in_names(self) -> Fault
         ensures { result ≡ in_names self }
     {

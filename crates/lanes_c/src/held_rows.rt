@@ -32,7 +32,7 @@ fn delete_range_if(
     Ok(())
 }
 
-/// The same, with how many batches of that name the store has.
+/// Deletes a range of rows of a batch if the batch is held. It also answers how many batches of that name the store has.
 fn delete_held_range(
     alloc: Global,
     shared: &mut Shared,

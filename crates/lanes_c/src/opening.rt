@@ -53,7 +53,7 @@ fn answer_text(alloc: Global, store: &Store, hash_key: HashKey, sql: &str) -> Re
     Ok(text(alloc, &answer)?)
 }
 
-/// The same of a query in bytes.
+/// The text of the answer of a query in bytes over a store.
 pub(crate) fn answered_over(
     alloc: Global,
     store: &Store,
@@ -66,7 +66,7 @@ pub(crate) fn answered_over(
     answer_text(alloc, store, hash_key, sql)
 }
 
-/// The same of what is open, as it is said of a file that holds it.
+/// The text of the answer of a query in bytes over what is open, as it is said of a file that holds it.
 fn asked_of(alloc: Global, shared: &Shared, sql: &[u8]) -> Result<Vec<u8>, Fault>
     ensures { (file : List ℕ) → held_in file ≡ Ok shared.now.store.value.replica → Asks (given_by result) sql.now (query_of sql.now file) }
 {

@@ -45,7 +45,7 @@ fn partial_answer_over(
     bytes_of(alloc, &partial)
 }
 
-/// The same of a query in bytes.
+/// What a store gives to the answer of a query in bytes, in bytes.
 fn partial_answer_asked(
     alloc: Global,
     store: &Store,
@@ -58,7 +58,7 @@ fn partial_answer_asked(
     partial_answer_over(alloc, store, hash_key, sql)
 }
 
-/// The same of what is open.
+/// What a store that is open gives to the answer of a query in bytes, in bytes.
 fn partial_answer_of_open(alloc: Global, shared: &Shared, sql: &[u8]) -> Result<Vec<u8>, Fault>
     ensures { AsksPartialAnswer (given_by result) sql.now shared.now.store.value.replica }
 {
@@ -74,7 +74,7 @@ fn both_partial_answers(alloc: Global, one: &[u8], other: &[u8]) -> Result<Parti
     Ok(combine_next(alloc, Some(first), &mut Counted::new(other))?)
 }
 
-/// The same in bytes.
+/// The partial answer that two partial answers in bytes make, in bytes.
 fn combined(alloc: Global, one: &[u8], other: &[u8]) -> Result<Vec<u8>, Fault>
     ensures { Combines (given_by result) one.now other.now }
 {

@@ -32,7 +32,7 @@ fn with_part(
     }
 }
 
-/// The same of a name in bytes.
+/// The parts of a box with one more, whose name is in bytes, or this one alone.
 fn taken(
     alloc: Global,
     held: Option<Box<ReadParts>>,

@@ -31,7 +31,7 @@ fn answered(alloc: Global, file: &[u8], sql: &str) -> Result<Vec<u8>, Fault>
     taken(done, writer)
 }
 
-/// The same of a query in bytes.
+/// The text of the answer of a query in bytes.
 fn asked(alloc: Global, file: &[u8], sql: &[u8]) -> Result<Vec<u8>, Fault>
     ensures { Asks (given_by result) sql.now (query_of sql.now file.now) }
 {
@@ -48,7 +48,7 @@ fn rows_of(alloc: Global, file: &OpenFile, has_names: bool) -> Result<Vec<u8>, F
     taken(done, writer)
 }
 
-/// The same of a file.
+/// The live rows of a file as comma-separated values.
 fn dumped(alloc: Global, file: &[u8], has_names: bool) -> Result<Vec<u8>, Fault>
     ensures { Yields (given_by result) (dump_of has_names file.now) }
 {

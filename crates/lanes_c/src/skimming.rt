@@ -50,7 +50,7 @@ fn with_part(
     }
 }
 
-/// The same of a name in bytes.
+/// What was read of parts, out of its box, with what is read of one more, whose name is in bytes.
 fn skimmed(
     alloc: Global,
     held: Option<Box<Skim>>,
