@@ -54,7 +54,7 @@ impl CsvReader {
     }
 
     /// A reader of rows of this schema, from the start of a text in this dialect. If the text has a header, its first line gives the order
-    /// of the columns, or is passed over where the dialect has an order. It reads nothing yet.
+    /// of the columns, or is passed over if the dialect has an order. It reads nothing yet.
     pub fn in_dialect(
         alloc: Global,
         schema: &Schema,

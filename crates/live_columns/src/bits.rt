@@ -60,7 +60,7 @@ fn clear_each(nulls: &Mask, rows: &Mask, valid: &mut [u8], first: usize)
     }
 }
 
-/// Clears the bits of rows whose cell is null, and answers how many there are. If there is none it does nothing.
+/// Clears the bits of rows whose cell is null, and answers how many there are. If no cell is null it does nothing.
 pub(crate) fn clear_nulls(nulls: &Mask, rows: &Mask, valid: &mut [u8], first: usize) -> usize
     requires room { first + length (picked rows.now (has nulls.now)) ≤ 8 * length valid.old }
     requires size { length valid.old ≤ 2 ^ 60 }
