@@ -13,10 +13,9 @@ use Rattle.table_model.specs.State.{State, Batch, Cells, named_from, named_rows,
 use Rattle.table_model.specs.declared.names.BatchName.{BatchName}
 use Rattle.table_model.specs.declared.names.RowName.{RowName}
 use Rattle.transpose_order.specs.Mask.{count_below}
-use Rattle.answer_formats.specs.declared.format.ReportForm.{ReportForm}
 use Rattle.replica_store.specs.Forgets.{batches_of, row_count}
 use Rattle.replica_reports.specs.declared.batch_counts.BatchCounts.{BatchCounts}
-use Rattle.replica_reports.specs.Counts.{is_live_at, live_rows_of, counted, batch_counts, batch_line}
+use Rattle.replica_reports.specs.Counts.{is_live_at, live_rows_of, counted, batch_counts}
 use Rattle.replica_reports.proofs.BatchCounting.{live_counted}
 
 abbrev Entry : Type 0
