@@ -6,7 +6,7 @@ CRATES = TOP / "crates"
 WORD = re.compile(r"[A-Za-z_][\w-]*")
 IMPORTED = re.compile(r"^\s*(?:ghost )?use Rattle\.(\w+)\.specs\.([\w.]+?)\.\{([^}]*)\}", re.M)
 CLAUSE = re.compile(r"\s*(ensures|requires|ghost)\b")
-# How many definitions a law may be away from a clause: that of the clause, and one that this names.
+# How many definitions a law may be away from a clause, or from a law named before it: that of the clause, and one that this names.
 NEAR = 2
 
 
@@ -99,6 +99,20 @@ def groups(cell):
     return [(laws, names, (crates or [None])[0]) for laws, names, crates in found if laws or names]
 
 
+def unsaid(laws, name, call, files):
+    """What is wrong with the laws of a call of this name: each is defined in these files, and a clause or a law before it says it."""
+    said = [call]
+    for law in laws:
+        home = next((file for file in files if defined(law, file)), None)
+        if home is None:
+            return f"{law} is not defined in the files of its row"
+        steps = NEAR if law[0].isupper() else None
+        if not any(states(text, file, (home, law), steps) for file, text in said):
+            return f"{law} is not what a clause of {name} says"
+        said.append((home, defined(law, home)))
+    return None
+
+
 def unstated(cell, files):
     """What is wrong with a cell that names laws and calls, whose laws are defined in these files: a sentence, or None."""
     for laws, names, crate in groups(cell):
@@ -108,11 +122,6 @@ def unstated(cell, files):
             found = calls(name, crate)
             if len(found) != 1:
                 return f"there are {len(found)} public functions {name}" + (f" in {crate}" if crate else "")
-            for law in laws:
-                home = next((file for file in files if defined(law, file)), None)
-                if home is None:
-                    return f"{law} is not defined in the files of its row"
-                source, ensured = found[0]
-                if not states(ensured, source, (home, law), NEAR if law[0].isupper() else None):
-                    return f"{law} is not what a clause of {name} says"
+            if fault := unsaid(laws, name, found[0], files):
+                return fault
     return None

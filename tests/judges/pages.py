@@ -36,6 +36,7 @@ UNSAID = [
     ("crates/cluster_history/specs/History.antt", "pub exports : SameExport", "pub exports : ReadsLeaveAll", "SameExport is not what a clause of history_laws says"),
     ("crates/folder_protocol/src/keeping.rt", "    ensures in_turn {", "    ensures turns { Unit {0} } //", "GoesInTurn is not what a clause of keep_all says"),
     ("crates/replica_store/src/laws.rt", "ensures { MergeLaws }", "requires { MergeLaws }", "MergeLaws is not what a clause of merge_laws says"),
+    ("crates/lanes_c/specs/FolderTurns.antt", " × MayEndAs state.task call.number", "", "MayEndAs is not what a clause of lanes_folder_next says"),
     ("docs/THEOREM.md", "| `FileLaws` of `file_laws()` |", "| `FileLaws` |", "no call is named that states FileLaws"),
     ("docs/THEOREM.md", "| `FileLaws` of `file_laws()` |", "| `FileLaws` of `laws_of_files()` |", "there are 0 public functions laws_of_files"),
     ("docs/THEOREM.md", "`folder_model/specs/Laws.antt`", "`folder_model/specs/Run.antt`", "FolderHistoryLaws is not defined in the files of its row"),

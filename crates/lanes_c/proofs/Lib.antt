@@ -19,6 +19,7 @@ pub mod TurnHandleFields
 pub mod PartsFollowing
 pub mod PartsHandleFields
 pub mod PartsJoins
+pub mod FaultNumbers
 pub mod TurnEnds
 pub mod TurnSteps
 pub mod PartsTaken

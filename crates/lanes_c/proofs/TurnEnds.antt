@@ -5,10 +5,9 @@ use Rattle.folder_model.specs.Parts.{Parts}
 use Rattle.folder_model.specs.Turn.{IsStored}
 use Rattle.folder_protocol.specs.Causes.{FailsToSync, FindsNone, HasCall, Lacks}
 use Rattle.folder_protocol.specs.Goes.{AreRemoved}
-use Rattle.folder_protocol.specs.Keeping.{AreKept}
 use Rattle.folder_protocol.specs.declared.putting.Outcome.{Outcome}
 use Rattle.folder_protocol.specs.declared.putting.Outcome.TheVariants.{OnDisk, Unsynced, Gone, Damaged}
-use Rattle.folder_turns.specs.Orders.{Matter, Caused, Says, HasOnlySeen, HasUnseen}
+use Rattle.folder_turns.specs.Orders.{Matter, Caused, LeavesSafe, MayEnd, Says, HasOnlySeen, HasUnseen}
 use Rattle.folder_turns.specs.Turns.{State, EndsSaying, IsAstray}
 use Rattle.folder_turns.specs.declared.order.End.{End}
 use Rattle.folder_turns.specs.declared.order.End.TheVariants as ends
@@ -17,7 +16,7 @@ use Rattle.folder_turns.specs.declared.order.Task.TheVariants as tasks
 use Rattle.folder_turns.specs.declared.replay.Fault.{Fault as RunFault}
 use Rattle.folder_turns.specs.declared.replay.Fault.TheVariants as replay
 use Rattle.lanes_c.specs.Faults.{told_of_replay}
-use Rattle.lanes_c.specs.FolderTurns.{EndsAs, EndsIn, FaultCause, GoesOn, HasEnded, NumberCause, SaysEnd}
+use Rattle.lanes_c.specs.FolderTurns.{EndsAs, EndsIn, FaultCause, GoesOn, HasEnded, LeavesSafeAs, MayEndAs, NamesByEnd, NumberCause, SaysEnd}
 use Rattle.lanes_c.specs.declared.fault.Fault.{Fault}
 use Rattle.lanes_c.specs.declared.turn_calls.FolderCall.{FolderCall}
 
@@ -106,18 +105,39 @@ module _ {E : Type 0} (m : Matter) (before calls : List Call) where
   number_caused : (end : Result End E) (n : ℕ) → EndsAs end n → Caused m end before calls → NumberCause m n before calls
   number_caused end n number cause = record { unsynced = unsynced end n number cause; gone = gone end n number cause; unseen = unseen end n number cause }
 
--- and so has the fault
-fault_caused : {E : Type 0} (before : List Call) (state : State) (end : Result End E) (fault : Fault) → EndsIn end fault → Caused state.matter end before (state.calls ++ before) → FaultCause fault before state
-fault_caused before state (Ok (ends.Came OnDisk)) fault ends_in cause = absurd ends_in
-fault_caused before state (Ok (ends.Came Unsynced)) fault ends_in cause = absurd ends_in
-fault_caused before state (Ok (ends.Came Gone)) fault ends_in cause = absurd ends_in
-fault_caused before state (Ok (ends.Came Damaged)) fault ends_in cause = subst (λ (f : Fault). FaultCause f before state) (sym ends_in) cause
-fault_caused before state (Ok ends.Overtaken) fault ends_in cause = absurd ends_in
-fault_caused before state (Ok ends.Unseen) fault ends_in cause = absurd ends_in
-fault_caused before state (Ok (ends.Listed names)) fault ends_in cause = absurd ends_in
-fault_caused before state (Ok ends.Kept) fault ends_in cause = absurd ends_in
-fault_caused before state (Err error) fault (inl busy) cause = subst (λ (f : Fault). FaultCause f before state) (sym busy) cause
-fault_caused before state (Err error) fault (inr (code, system)) cause = subst (λ (f : Fault). FaultCause f before state) (sym system) (inr cause)
+-- it is that of an end to which the task may come
+may_end : (E : Type 0) (task : Task) (end : Result End E) (n : ℕ) → EndsAs end n → IfOk end (λ e. MayEnd task e) → MayEndAs task n
+may_end E task (Ok end) n number may = (end, may, number)
+may_end E task (Err error) n number may = absurd number
+
+-- what is kept or relied on is safe then
+ended_safe : (E : Type 0) (task : Task) (m : Matter) (end : Result End E) (n : ℕ) (parts : Parts) (before calls : List Call) → EndsAs end n → LeavesSafe task m end parts before calls → LeavesSafeAs task m parts before calls
+ended_safe E tasks.Put m end n parts before calls number said = tt
+ended_safe E tasks.Keep m end n parts before calls number said = tt
+ended_safe E tasks.Replace m end n parts before calls number said = tt
+ended_safe E tasks.Remove m end n parts before calls number said = tt
+ended_safe E tasks.List m end n parts before calls number said = tt
+ended_safe E tasks.PutJudged m end n parts before calls number said = tt
+ended_safe E tasks.KeepAll m (Ok end) n parts before calls number said = said
+ended_safe E tasks.KeepAll m (Err error) n parts before calls number said = absurd number
+ended_safe E tasks.KeepAndPut m (Ok end) n parts before calls number said = said
+ended_safe E tasks.KeepAndPut m (Err error) n parts before calls number said = absurd number
+ended_safe E tasks.KeepAndPutJudged m (Ok end) n parts before calls number said = said
+ended_safe E tasks.KeepAndPutJudged m (Err error) n parts before calls number said = absurd number
+
+-- a fault has the cause of its end
+fault_caused : {E : Type 0} (parts : Parts) (before : List Call) (state : State) (end : Result End E) (fault : Fault)
+    → EndsIn end fault → Caused state.matter end before (state.calls ++ before) → NamesByEnd parts before state → FaultCause parts fault before state
+fault_caused parts before state (Ok (ends.Came OnDisk)) fault ends_in cause named = absurd ends_in
+fault_caused parts before state (Ok (ends.Came Unsynced)) fault ends_in cause named = absurd ends_in
+fault_caused parts before state (Ok (ends.Came Gone)) fault ends_in cause named = absurd ends_in
+fault_caused parts before state (Ok (ends.Came Damaged)) fault ends_in cause named = subst (λ (f : Fault). FaultCause parts f before state) (sym ends_in) (cause, named)
+fault_caused parts before state (Ok ends.Overtaken) fault ends_in cause named = absurd ends_in
+fault_caused parts before state (Ok ends.Unseen) fault ends_in cause named = absurd ends_in
+fault_caused parts before state (Ok (ends.Listed names)) fault ends_in cause named = absurd ends_in
+fault_caused parts before state (Ok ends.Kept) fault ends_in cause named = absurd ends_in
+fault_caused parts before state (Err error) fault (inl busy) cause named = subst (λ (f : Fault). FaultCause parts f before state) (sym busy) (cause, named)
+fault_caused parts before state (Err error) fault (inr (code, system)) cause named = subst (λ (f : Fault). FaultCause parts f before state) (sym system) (inr (cause, named))
 
 -- a turn has ended as its order
 pub has_ended : {E : Type 0} (before : List Call) (state : State) (call : FolderCall) (end : Result End E) (n : ℕ) → call.kind ≡ 0 → call.number ≡ n → state.asked ≡ None → EndsAs end n
@@ -125,25 +145,27 @@ pub has_ended : {E : Type 0} (before : List Call) (state : State) (call : Folder
 has_ended {E} before state call end n ended told none number says = let ends_as = subst (λ (k : ℕ). EndsAs end k) (sym told) number in (
   ended,
   none,
-  λ parts may. (
-    ended_says E state.task state.matter end call.number parts before (state.calls ++ before) ends_as (says parts may).0,
-    number_caused state.matter before (state.calls ++ before) end call.number ends_as (says parts may).1,
-    (says parts may).2,
+  λ parts may. let said = says parts may in (
+    ended_says E state.task state.matter end call.number parts before (state.calls ++ before) ends_as said.0,
+    number_caused state.matter before (state.calls ++ before) end call.number ends_as said.1,
+    (said.2, said.3, said.6),
+    may_end E state.task end call.number ends_as said.4,
+    ended_safe E state.task state.matter end call.number parts before (state.calls ++ before) ends_as said.5,
   ),
 )
 
 -- or is refused as it
 pub is_refused : {E : Type 0} (before : List Call) (state : State) (call : FolderCall) (end : Result End E) (fault : Fault) → EndsIn end fault → EndsSaying before state end → GoesOn before state call (Err fault)
-is_refused before state call end fault ends_in says = λ parts may. fault_caused before state end fault ends_in (says parts may).1
+is_refused before state call end fault ends_in says = λ parts may. let said = says parts may in fault_caused parts before state end fault ends_in said.1 (said.2, said.3, said.6)
 
 -- a fault of a run is that it has strayed, or that memory ran out
 pub strays : (before : List Call) (state : State) (call : FolderCall) (came : RunFault) (fault : Fault) → fault ≡ told_of_replay came → (came ≡ replay.Strayed → IsAstray before state)
     → GoesOn before state call (Err fault)
-strays before state call came fault is astray = λ parts may. subst (λ (f : Fault). FaultCause f before state) (sym is) (caused came astray)
+strays before state call came fault is astray = λ parts may. subst (λ (f : Fault). FaultCause parts f before state) (sym is) (caused parts came astray)
   where
-    caused : (other : RunFault) → (other ≡ replay.Strayed → IsAstray before state) → FaultCause (told_of_replay other) before state
-    caused replay.OutOfMemory so = refl
-    caused replay.Strayed so = inl (refl, so refl)
+    caused : (parts : Parts) (other : RunFault) → (other ≡ replay.Strayed → IsAstray before state) → FaultCause parts (told_of_replay other) before state
+    caused parts replay.OutOfMemory so = refl
+    caused parts replay.Strayed so = inl (refl, so refl)
 
 -- what is said of the end that came is said of it
 pub said_of : {E : Type 0} (P : Result End E → Type 0) (came : Option (Result End E)) (end : Result End E) → came ≡ Some end → MatchOption came (Unit {0}) P → P end

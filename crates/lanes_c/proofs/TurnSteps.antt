@@ -1,8 +1,8 @@
 -- What a handle of a turn has, and what is told of it.
-use Rattle.std.proofs.Common.{◌≡◌, refl, sym, subst, ap, ◌∙◌, inl, ℕ, List, MatchOption, MatchResult, Option, Some, None, Result, Ok, Err}
+use Rattle.std.proofs.Common.{◌≡◌, refl, sym, subst, ap, ◌∙◌, inl, inr, ℕ, List, MatchOption, MatchResult, Option, Some, None, Result, Ok, Err}
 use Rattle.folder_model.specs.Call.{Call}
 use Rattle.folder_turns.specs.Turns.{State}
-use Rattle.lanes_c.specs.FolderTurns.{Drives, DrivesOpen, GoesOn, HasTold, IsAbout, names_left}
+use Rattle.lanes_c.specs.FolderTurns.{Adds, Drives, DrivesOpen, GoesOn, HasTold, IsAbout, names_left}
 use Rattle.lanes_c.specs.Rooms.{Given}
 use Rattle.lanes_c.specs.declared.fault.Fault.{Fault}
 use Rattle.lanes_c.specs.declared.fault.Fault.TheVariants.{NotOpen}
@@ -61,3 +61,7 @@ module _ {A : Type 0} (before : List Call) (kind number : ℕ) (bytes : List ℕ
       (λ zero. absurd (other zero))
       (λ also. subst (λ (c : List Call). HasTold kind number bytes was c) (sym calls) told)
       (listed ∙ left)
+
+-- a call that is refused a name leaves an open turn as it was
+pub not_added : (add : State → State) (number : ℕ) (old new : Option State) (was : State) → old ≡ Some was → new ≡ Some was → (number ≡ 0 → ⊥) → Adds add number old new
+not_added add number old new was opened same refused = subst (λ (s : Option State). Adds add number s new) (sym opened) (inr (refused, same))

@@ -6,10 +6,10 @@ use Rattle.folder_model.specs.Turn.{IsStored}
 use Rattle.folder_parts.specs.PartName.{part_name}
 use Rattle.folder_protocol.specs.Causes.{Fails, FailsToSync, FindsNone, FindsOther, HasCall, Lacks}
 use Rattle.folder_protocol.specs.Goes.{AreRemoved}
-use Rattle.folder_protocol.specs.Keeping.{AreKept}
+use Rattle.folder_protocol.specs.Keeping.{AreKept, AreReliedOn}
 use Rattle.folder_protocol.specs.declared.putting.Outcome.TheVariants.{OnDisk, Unsynced, Gone, Damaged}
 use Rattle.folder_turns.specs.Calls.{answered, names_of, found_of}
-use Rattle.folder_turns.specs.Orders.{Matter, MayTake, HasOnlySeen, HasUnseen, LinksInTask}
+use Rattle.folder_turns.specs.Orders.{Matter, MayEnd, MayTake, HasOnlySeen, HasUnseen, LinksInTask, LinksOnceKept, RemovesInTask}
 use Rattle.folder_turns.specs.Turns.{State, AsksInTurn, IsAstray}
 use Rattle.folder_turns.specs.declared.order.End.{End}
 use Rattle.folder_turns.specs.declared.order.End.TheVariants as ends
@@ -92,16 +92,20 @@ abbrev pub HasTold : ℕ → ℕ → List ℕ → State → List Call → Type 0
 HasTold kind number bytes was calls =
     MatchOption was.asked (calls ≡ was.calls) (λ call. (answer : Answer) × Fits kind number bytes was.listed answer × (calls ≡ answered call answer ++ was.calls))
 
+-- the number of an end; one whose part has other bytes has none
+abbrev pub IsNumberOf : End → ℕ → Type 0
+IsNumberOf (ends.Came OnDisk) n = n ≡ 1
+IsNumberOf (ends.Came Unsynced) n = n ≡ 2
+IsNumberOf (ends.Came Gone) n = n ≡ 3
+IsNumberOf (ends.Came Damaged) n = ⊥
+IsNumberOf ends.Overtaken n = n ≡ 3
+IsNumberOf ends.Unseen n = n ≡ 4
+IsNumberOf (ends.Listed names) n = n ≡ 0
+IsNumberOf ends.Kept n = n ≡ 0
+
 -- the end of a turn is told by this number
 abbrev pub EndsAs : {E : Type 0} → Result End E → ℕ → Type 0
-EndsAs (Ok (ends.Came OnDisk)) n = n ≡ 1
-EndsAs (Ok (ends.Came Unsynced)) n = n ≡ 2
-EndsAs (Ok (ends.Came Gone)) n = n ≡ 3
-EndsAs (Ok (ends.Came Damaged)) n = ⊥
-EndsAs (Ok ends.Overtaken) n = n ≡ 3
-EndsAs (Ok ends.Unseen) n = n ≡ 4
-EndsAs (Ok (ends.Listed names)) n = n ≡ 0
-EndsAs (Ok ends.Kept) n = n ≡ 0
+EndsAs (Ok end) n = IsNumberOf end n
 EndsAs (Err error) n = ⊥
 
 -- or by this fault: a part has other bytes, others have had the folder, or the system refused a call
@@ -132,29 +136,48 @@ pub record NumberCause (m : Matter) (n : ℕ) (before calls : List Call) : Type 
   pub gone : n ≡ 3 → HasCall (FindsNone m.name) before calls ⊎ HasCall (Lacks m.names) before calls
   pub unseen : n ≡ 4 → HasUnseen m.names before calls
 
--- What a fault of a turn comes of: a call that failed, or other bytes that were found. System 0 may also be that a run of the order has strayed
--- from the calls that were told, and memory may run out.
-abbrev pub FaultCause : Fault → List Call → State → Type 0
-FaultCause faults.Busy before state = HasCall Fails before (state.calls ++ before)
-FaultCause faults.Damaged before state = HasCall (FindsOther state.matter.name state.matter.bytes) before (state.calls ++ before)
-FaultCause (faults.System code) before state = ((code ≡ 0) × IsAstray before state) ⊎ HasCall Fails before (state.calls ++ before)
-FaultCause (faults.Refused refusal) before state = refusal ≡ Memory
-FaultCause fault before state = ⊥
+-- The number is that of an end to which the task may come. So 0 is no end of a task that puts a part.
+abbrev pub MayEndAs : Task → ℕ → Type 0
+MayEndAs task n = (end : End) × MayEnd task end × IsNumberOf end n
 
--- A turn has come to its end, and asks for nothing. Its number says what the end of its task says, and has its cause; and files were given names
--- as its task does.
+-- What a task leaves at an end that has a number: each part that it is to keep, or on which its part relies, and that was read before, is kept, or
+-- is gone and covered by another.
+abbrev pub LeavesSafeAs : Task → Matter → Parts → List Call → List Call → Type 0
+LeavesSafeAs tasks.KeepAll m parts before calls = AreReliedOn parts m.names before calls
+LeavesSafeAs tasks.KeepAndPut m parts before calls = AreReliedOn parts m.relied before calls
+LeavesSafeAs tasks.KeepAndPutJudged m parts before calls = AreReliedOn parts m.relied before calls
+LeavesSafeAs task m parts before calls = Unit {0}
+
+-- When names were given and removed by the end of a turn: as its task does it, and a part got its name only once each part on which it relies was kept,
+-- or gone.
+abbrev pub NamesByEnd : Parts → List Call → State → Type 0
+NamesByEnd parts before state =
+    LinksInTask state.task state.matter before (state.calls ++ before) × LinksOnceKept state.task state.matter parts before (state.calls ++ before)
+    × RemovesInTask state.task state.matter parts before (state.calls ++ before)
+
+-- What a fault of a turn comes of: a call that failed, or other bytes that were found; then names were given and removed as at each end. System 0
+-- may also be that a run of the order has strayed from the calls that were told, and memory may run out.
+abbrev pub FaultCause : Parts → Fault → List Call → State → Type 0
+FaultCause parts faults.Busy before state = HasCall Fails before (state.calls ++ before) × NamesByEnd parts before state
+FaultCause parts faults.Damaged before state = HasCall (FindsOther state.matter.name state.matter.bytes) before (state.calls ++ before) × NamesByEnd parts before state
+FaultCause parts (faults.System code) before state = ((code ≡ 0) × IsAstray before state) ⊎ (HasCall Fails before (state.calls ++ before) × NamesByEnd parts before state)
+FaultCause parts (faults.Refused refusal) before state = refusal ≡ Memory
+FaultCause parts fault before state = ⊥
+
+-- A turn has come to its end, and asks for nothing. Its number is one of its task, says what the end of that says, and has its cause. Names were given
+-- and removed as its task does it, and each part that was kept or relied on is safe.
 abbrev pub HasEnded : List Call → State → FolderCall → Type 0
 HasEnded before state call =
     (call.kind ≡ 0) × (state.asked ≡ None)
     × ((parts : Parts) → MayTake state.task state.matter parts before
     → SaysEnd state.task state.matter call.number parts before (state.calls ++ before) × NumberCause state.matter call.number before (state.calls ++ before)
-    × LinksInTask state.task state.matter before (state.calls ++ before))
+    × NamesByEnd parts before state × MayEndAs state.task call.number × LeavesSafeAs state.task state.matter parts before (state.calls ++ before))
 
 -- What is asked for next is in turn after what was told; or the turn has ended, or is refused, which has its cause.
 abbrev pub GoesOn : List Call → State → FolderCall → Given → Type 0
 GoesOn before state call (Ok names) =
     HasEnded before state call ⊎ (AsksInTurn before state × MatchOption state.asked ⊥ (λ asked. IsAsked asked state.matter.bytes call names))
-GoesOn before state call (Err fault) = (parts : Parts) → MayTake state.task state.matter parts before → FaultCause fault before state
+GoesOn before state call (Err fault) = (parts : Parts) → MayTake state.task state.matter parts before → FaultCause parts fault before state
 
 -- The turn is about the same.
 abbrev pub IsAbout : State → State → Type 0
@@ -214,3 +237,8 @@ relying name state = record {
   asked = state.asked;
   listed = state.listed;
 }
+
+-- A call that adds a name: with 0 it is added, and else the turn is as it was. Of a closed handle NotOpen is told.
+abbrev pub Adds : (State → State) → ℕ → Option State → Option State → Type 0
+Adds add number old new =
+    MatchOption old ((number ≡ 39) × (new ≡ None)) (λ was. ((number ≡ 0) × (new ≡ Some (add was))) ⊎ ((number ≡ 0 → ⊥) × (new ≡ Some was)))

@@ -8,7 +8,7 @@ ghost use Rattle.folder_turns.specs.Orders.{matter_of};
 ghost use Rattle.folder_turns.specs.Turns.{state_of};
 ghost use Rattle.folder_turns.specs.declared.request.Answer.TheVariants as answers;
 ghost use Rattle.lanes_c.specs.Calls.{Yields};
-ghost use Rattle.lanes_c.specs.FolderTurns.{Begins, DrivesOpen, Drives, EndsAs, EndsIn, Fits, GoesOn, HasEnded, HasTold, IsAbout, IsAsked, named, names_left, relying, state_begun, task_of};
+ghost use Rattle.lanes_c.specs.FolderTurns.{Adds, Begins, DrivesOpen, Drives, EndsAs, EndsIn, Fits, GoesOn, HasEnded, HasTold, IsAbout, IsAsked, named, names_left, relying, state_begun, task_of};
 ghost use Rattle.lanes_c.specs.Rooms.{IsFilled, Tells, given_by};
 ghost use Rattle.lanes_c.specs.Taking.{NoText};
 ghost use Rattle.lanes_c.specs.declared.fault.Fault.TheVariants.{Busy, Refused, System};
@@ -145,7 +145,7 @@ pub extern "C" fn lanes_folder_name(
     turn: &mut FolderTurn,
     place: &mut Place,
 ) -> u8
-    ensures { MatchOption turn.old.state ((result ≡ 39) × (turn.new.state ≡ None)) (λ was. ((result ≡ 0) × (turn.new.state ≡ Some (named name.now was))) ⊎ (turn.new.state ≡ Some was)) }
+    ensures { Adds (named name.now) result turn.old.state turn.new.state }
 {
     let Some(mut held) = replace(turn, FolderTurn::closed()).into_box(alloc) else {
         *place = Place::nowhere();
@@ -185,7 +185,7 @@ pub extern "C" fn lanes_folder_relied(
     turn: &mut FolderTurn,
     place: &mut Place,
 ) -> u8
-    ensures { MatchOption turn.old.state ((result ≡ 39) × (turn.new.state ≡ None)) (λ was. ((result ≡ 0) × (turn.new.state ≡ Some (relying name.now was))) ⊎ (turn.new.state ≡ Some was)) }
+    ensures { Adds (relying name.now) result turn.old.state turn.new.state }
 {
     let Some(mut held) = replace(turn, FolderTurn::closed()).into_box(alloc) else {
         *place = Place::nowhere();
