@@ -29,7 +29,7 @@ _lanes() {
         summary) options='--help' ;;
         offer) options='--help' ;;
         apply) options='--quiet --help' ;;
-        merge) options='--quiet --help' ;;
+        merge) options='--replace --quiet --help' ;;
         spread) options='--quiet --help' ;;
         partial) options='--help' ;;
         combine) options='--help' ;;
